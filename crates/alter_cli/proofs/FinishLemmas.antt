@@ -1,0 +1,201 @@
+-- The last line of a call makes its outcome whole.
+use Rattle.std.proofs.Common.{◌≡◌, ◌≤◌, ℕ, Bool, inl, inr, Option, Some, None, option_map, Ok, Err, IfNone, IsSomeAnd, List, [], ◌∷◌, ◌++◌, refl, sym, ◌∙◌, ap, subst, arith}
+use Rattle.std.proofs.lemmas.List.{append-nil}
+use Rattle.alter_disk.specs.Files.{Files}
+use Rattle.alter_disk.specs.Changes.{IfTold}
+use Rattle.alter_disk.specs.Faults.{Rose}
+use Rattle.alter_cli.specs.declared.stop.Stop.{Stop}
+use Rattle.alter_cli.specs.declared.stop.Stop.TheVariants.{Misused, TooLong, Unspelled, Unread, Unserved, Unreadable, Unwritten, Unprinted, Memory}
+use Rattle.alter_cli.specs.declared.status.Status.{Status}
+use Rattle.alter_cli.specs.declared.status.Status.TheVariants as statuses
+use Rattle.alter_cli.specs.declared.verdict.Verdict.{Verdict}
+use Rattle.alter_cli.specs.Given.{HasFront}
+use Rattle.alter_cli.specs.Lines.{verdict_line, verdict_lines}
+use Rattle.alter_cli.specs.Outcome.{Outcome, Told, Misused as MisusedCall}
+use Rattle.alter_cli.specs.Ending.{WhereTold, RanSo, IsLast, IsPerformed, status_of, stop_status, stop_line}
+
+some_is : (a b : List ℕ) → ◌≡◌ {A = Option (List ℕ)} (Some a) (Some b) → a ≡ b
+some_is a b e = cc
+
+-- a count that rose has risen later too
+pub rose_later : (a b c : ℕ) → Rose a b → b ≤ c → Rose a c
+rose_later a b c rose later = omega arith
+
+-- a count that rose later has risen
+pub rose_before : (a b c : ℕ) → a ≤ b → Rose b c → Rose a c
+rose_before a b c later rose = omega arith
+
+-- a failure of the sink in a part of the call is one in the call
+pub outcome_later : (Source Read Write Part Sunk : Type 0) (text : List ℕ) (before : Files) (status : Status) (verdicts : List Verdict) (last : List ℕ)
+    (after : Files) (called : Bool) (left : List ℕ) → (Part → Sunk) → Outcome Source Read Write Part text before status verdicts last after called left
+    → Outcome Source Read Write Sunk text before status verdicts last after called left
+outcome_later Source Read Write Part Sunk text before statuses.Done verdicts last after called left later is = is
+outcome_later Source Read Write Part Sunk text before statuses.Refused verdicts last after called left later is = is
+outcome_later Source Read Write Part Sunk text before statuses.Script verdicts last after called left later is = is
+outcome_later Source Read Write Part Sunk text before statuses.File verdicts last after called left later is = is
+outcome_later Source Read Write Part Sunk text before statuses.Memory verdicts last after called left later is = is
+outcome_later Source Read Write Part Sunk text before statuses.Usage verdicts last after called left later is = is
+outcome_later Source Read Write Part Sunk text before statuses.Fault verdicts last after called left later (inl is) = inl is
+outcome_later Source Read Write Part Sunk text before statuses.Fault verdicts last after called left later (inr (inl is)) = inr (inl is)
+outcome_later Source Read Write Part Sunk text before statuses.Fault verdicts last after called left later (inr (inr (inl is))) = inr (inr (inl is))
+outcome_later Source Read Write Part Sunk text before statuses.Fault verdicts last after called left later (inr (inr (inr is))) =
+    inr (inr (inr (later is.0, is.1, is.2)))
+
+-- the one line of a verdict
+one_line : (verdict : Verdict) → verdict_lines 1 (verdict ∷ []) ≡ verdict_line 1 verdict
+one_line verdict = append-nil (verdict_line 1 verdict)
+
+-- a call with a verdict is whole
+pub performed_ok : (Source Read Write Sunk : Type 0) (called : Bool) (verdict : Verdict) (text left : List ℕ) (before after : Files) (given now : List ℕ)
+    → RanSo Source Read Write Sunk called (Ok verdict) text left before after given now
+    → IsPerformed Source Read Write Sunk called (status_of verdict) text left before after given now
+performed_ok Source Read Write Sunk called verdict text left before after given now is = record {
+  planned = status_of verdict;
+  verdicts = verdict ∷ [];
+  last = [];
+  outcome = is.0;
+  told = inl (refl, is.1 ∙ ap (λ (l : List ℕ). given ++ l) (sym (one_line verdict)) ∙ sym (append-nil (given ++ verdict_lines 1 (verdict ∷ []))));
+}
+
+-- nothing was there in front of nothing
+nothing : (a b : List ℕ) → [] ≡ a ++ b → a ≡ []
+nothing [] b e = refl
+nothing (x ∷ a) b e = absurd cc
+
+-- the line of a stop without a verdict is told
+last_told : (Part Sunk : Type 0) (stop : Stop) (status : Status) (given mid now : List ℕ) → (Part → Sunk) → mid ≡ given → IsLast Part stop status mid now
+    → Told Sunk (stop_status stop) [] (stop_line stop) given now status
+last_told Part Sunk stop status given mid now later same (inl is) =
+    inl (is.0, is.1 ∙ ap (λ (g : List ℕ). g ++ stop_line stop) (same ∙ sym (append-nil given)))
+last_told Part Sunk stop status given mid now later same (inr is) =
+    inr (
+      later is.0,
+      is.1,
+      (
+        [],
+        [],
+        is.2.front,
+        is.2.rest,
+        refl,
+        omega arith,
+        some_is now (mid ++ is.2.front) is.2.written ∙ ap (λ (g : List ℕ). g ++ is.2.front) (same ∙ sym (append-nil given)),
+        is.2.whole,
+      ),
+    )
+
+-- the call without a verdict is whole
+stop_whole : (Source Read Write First Part Sunk : Type 0) (called : Bool) (stop : Stop) (status : Status) (text left : List ℕ) (before after : Files) (given mid now : List ℕ)
+    → (First → Sunk) → (Part → Sunk)
+    → Outcome Source Read Write First text before (stop_status stop) [] (stop_line stop) after called left → mid ≡ given → IsLast Part stop status mid now
+    → IsPerformed Source Read Write Sunk called status text left before after given now
+stop_whole Source Read Write First Part Sunk called stop status text left before after given mid now first later is same last = record {
+  planned = stop_status stop;
+  verdicts = [];
+  last = stop_line stop;
+  outcome = outcome_later Source Read Write First Sunk text before (stop_status stop) [] (stop_line stop) after called left first is;
+  told = last_told Part Sunk stop status given mid now later same last;
+}
+
+-- what is behind the front of a sink that failed
+unprinted_end : (Part : Type 0) (status : Status) (mid now : List ℕ) → IsLast Part Unprinted status mid now → (status ≡ statuses.Fault) × (now ≡ mid)
+unprinted_end Part status mid now (inl is) = (is.0, is.1 ∙ append-nil mid)
+unprinted_end Part status mid now (inr is) =
+    (is.1, some_is now (mid ++ is.2.front) is.2.written ∙ ap (λ (f : List ℕ). mid ++ f) (nothing is.2.front is.2.rest is.2.whole) ∙ append-nil mid)
+
+-- a call that stopped is whole
+pub performed_stop : (Source Read Write First Part Sunk : Type 0) (called : Bool) (stop : Stop) (status : Status) (text left : List ℕ) (before after : Files)
+    (given mid now : List ℕ) → (First → Sunk) → (Part → Sunk)
+    → RanSo Source Read Write First called (Err stop) text left before after given mid → IsLast Part stop status mid now
+    → IsPerformed Source Read Write Sunk called status text left before after given now
+performed_stop Source Read Write First Part Sunk called Unprinted status text left before after given mid now first later is last =
+    let (verdict, outcome, front) = is.1 in
+    let ended = unprinted_end Part status mid now last in
+    record {
+      planned = statuses.Fault;
+      verdicts = verdict ∷ [];
+      last = [];
+      outcome = outcome_later Source Read Write First Sunk text before statuses.Fault (verdict ∷ []) [] after called left first outcome;
+      told = inr (
+        first is.0,
+        ended.0,
+        (
+          [],
+          verdict ∷ [],
+          front.front,
+          front.rest,
+          refl,
+          omega arith,
+          ended.1 ∙ some_is mid (given ++ front.front) front.written ∙ ap (λ (g : List ℕ). g ++ front.front) (sym (append-nil given)),
+          append-nil (verdict_lines 1 (verdict ∷ [])) ∙ one_line verdict ∙ front.whole,
+        ),
+      );
+    }
+performed_stop Source Read Write First Part Sunk called Misused status text left before after given mid now first later is last =
+    stop_whole Source Read Write First Part Sunk called Misused status text left before after given mid now first later is.0 is.1 last
+performed_stop Source Read Write First Part Sunk called TooLong status text left before after given mid now first later is last =
+    stop_whole Source Read Write First Part Sunk called TooLong status text left before after given mid now first later is.0 is.1 last
+performed_stop Source Read Write First Part Sunk called Unspelled status text left before after given mid now first later is last =
+    stop_whole Source Read Write First Part Sunk called Unspelled status text left before after given mid now first later is.0 is.1 last
+performed_stop Source Read Write First Part Sunk called Unread status text left before after given mid now first later is last =
+    stop_whole Source Read Write First Part Sunk called Unread status text left before after given mid now first later is.0 is.1 last
+performed_stop Source Read Write First Part Sunk called Unserved status text left before after given mid now first later is last =
+    stop_whole Source Read Write First Part Sunk called Unserved status text left before after given mid now first later is.0 is.1 last
+performed_stop Source Read Write First Part Sunk called Unreadable status text left before after given mid now first later is last =
+    stop_whole Source Read Write First Part Sunk called Unreadable status text left before after given mid now first later is.0 is.1 last
+performed_stop Source Read Write First Part Sunk called Unwritten status text left before after given mid now first later is last =
+    stop_whole Source Read Write First Part Sunk called Unwritten status text left before after given mid now first later is.0 is.1 last
+performed_stop Source Read Write First Part Sunk called Memory status text left before after given mid now first later is last =
+    stop_whole Source Read Write First Part Sunk called Memory status text left before after given mid now first later is.0 is.1 last
+
+-- where all three tell
+pub performed_told_ok : (Source Read Write Sunk : Type 0) (called : Bool) (verdict : Verdict) (text left : Option (List ℕ)) (before after : Option Files)
+    (given now : Option (List ℕ)) → WhereTold text left before after given now (RanSo Source Read Write Sunk called (Ok verdict))
+    → WhereTold text left before after given now (IsPerformed Source Read Write Sunk called (status_of verdict))
+performed_told_ok Source Read Write Sunk called verdict None left before after given now is = tt
+performed_told_ok Source Read Write Sunk called verdict (Some t) left None after given now is = tt
+performed_told_ok Source Read Write Sunk called verdict (Some t) left (Some f) after None now is = tt
+performed_told_ok Source Read Write Sunk called verdict (Some t) None (Some f) after (Some w) now is = absurd is
+performed_told_ok Source Read Write Sunk called verdict (Some t) (Some l) (Some f) None (Some w) now is = absurd is
+performed_told_ok Source Read Write Sunk called verdict (Some t) (Some l) (Some f) (Some a) (Some w) None is = absurd is
+performed_told_ok Source Read Write Sunk called verdict (Some t) (Some l) (Some f) (Some a) (Some w) (Some n) is =
+    performed_ok Source Read Write Sunk called verdict t l f a w n is
+
+pub performed_told_stop : (Source Read Write First Part Sunk : Type 0) (called : Bool) (stop : Stop) (status : Status) (text left : Option (List ℕ))
+    (before after : Option Files) (given mid now : Option (List ℕ)) → (First → Sunk) → (Part → Sunk)
+    → WhereTold text left before after given mid (RanSo Source Read Write First called (Err stop))
+    → IfTold mid (λ m. IsSomeAnd now (IsLast Part stop status m))
+    → WhereTold text left before after given now (IsPerformed Source Read Write Sunk called status)
+performed_told_stop Source Read Write First Part Sunk called stop status None left before after given mid now first later is last = tt
+performed_told_stop Source Read Write First Part Sunk called stop status (Some t) left None after given mid now first later is last = tt
+performed_told_stop Source Read Write First Part Sunk called stop status (Some t) left (Some f) after None mid now first later is last = tt
+performed_told_stop Source Read Write First Part Sunk called stop status (Some t) None (Some f) after (Some w) mid now first later is last = absurd is
+performed_told_stop Source Read Write First Part Sunk called stop status (Some t) (Some l) (Some f) None (Some w) mid now first later is last = absurd is
+performed_told_stop Source Read Write First Part Sunk called stop status (Some t) (Some l) (Some f) (Some a) (Some w) None now first later is last = absurd is
+performed_told_stop Source Read Write First Part Sunk called stop status (Some t) (Some l) (Some f) (Some a) (Some w) (Some m) None first later is last = absurd last
+performed_told_stop Source Read Write First Part Sunk called stop status (Some t) (Some l) (Some f) (Some a) (Some w) (Some m) (Some n) first later is last =
+    performed_stop Source Read Write First Part Sunk called stop status t l f a w m n first later is last
+
+-- a line that was written whole, or in front
+pub last_ok : (Sunk : Type 0) (stop : Stop) (had now : Option (List ℕ)) → now ≡ option_map (λ w. w ++ stop_line stop) had
+    → IfTold had (λ given. IsSomeAnd now (IsLast Sunk stop (stop_status stop) given))
+last_ok Sunk stop None now is = tt
+last_ok Sunk stop (Some w) now is = subst (λ n. IsSomeAnd n (IsLast Sunk stop (stop_status stop) w)) (sym is) (inl (refl, refl))
+
+pub last_err : (Sunk : Type 0) (stop : Stop) (had now : Option (List ℕ)) → Sunk → IfTold had (λ w. HasFront w (stop_line stop) now)
+    → IfTold had (λ given. IsSomeAnd now (IsLast Sunk stop statuses.Fault given))
+last_err Sunk stop None now sunk is = tt
+last_err Sunk stop (Some w) now sunk is =
+    subst (λ n. IsSomeAnd n (IsLast Sunk stop statuses.Fault w)) (sym is.written)
+    (inr (sunk, refl, record { front = is.front; rest = is.rest; written = refl; whole = is.whole }))
+
+-- a call that names no file is told so
+pub misused_told : (Sunk : Type 0) (status : Status) (given now : Option (List ℕ)) → IfTold given (λ w. IsSomeAnd now (IsLast Sunk Misused status w))
+    → IfTold given (λ w. IsSomeAnd now (λ n. MisusedCall Sunk w n status))
+misused_told Sunk status None now is = tt
+misused_told Sunk status (Some w) None is = absurd is
+misused_told Sunk status (Some w) (Some n) is = inl (last_told Sunk Sunk Misused status w w n (λ x. x) refl is)
+
+-- a fact holds where there is no value
+pub if_none : {A : Type 0} (option : Option A) (P : Type 0) → P → IfNone option P
+if_none None P is = is
+if_none (Some x) P is = tt

@@ -1,0 +1,69 @@
+-- The database files that are served so far.
+use Rattle.std.specs.Prelude.{◌≡◌, ◌≢◌, ◌≤◌, ◌<◌, ℕ, ◌-◌, ◌*◌, ◌^◌, true, List, [], ◌∷◌, length, map, take, codes, AllPairs, IsSomeAnd, IsTrue}
+use Rattle.std.specs.List.{AllByRecursion, slice_get}
+use Rattle.alter_disk.specs.Files.{Files}
+use Rattle.page_cells.specs.declared.cell.Cell.{Cell}
+use Rattle.page_cells.specs.Cells.{HasCells}
+use Rattle.sql_token.specs.Names.{folded}
+use Rattle.alter_cli.specs.declared.schema.SchemaRow.{SchemaRow}
+use Rattle.alter_cli.specs.declared.form.Table.{Table}
+use Rattle.alter_cli.specs.Image.{Page, Image, pages}
+use Rattle.alter_cli.specs.Header.{IsHeader, is_page_size, page_size, usable_size, page_count}
+use Rattle.alter_cli.specs.FirstPage.{HoldRows, IsEmptyTable, leaf_of}
+use Rattle.alter_cli.specs.TableText.{SpellsTable}
+
+-- page 1
+abbrev pub first_page : Image → Page
+first_page [] = []
+first_page (page ∷ others) = page
+
+-- the file's header, on page 1
+abbrev pub header_of : Image → List ℕ
+header_of image = take 100 (first_page image)
+
+-- the root of a row is a page of the image behind page 1, and an empty table
+pub record HasRoot (image : Image) (row : SchemaRow) : Type 0 where
+  pub behind : 2 ≤ row.root
+  pub there : row.root ≤ length image
+  pub empty : IsSomeAnd (slice_get image (row.root - 1)) (IsEmptyTable (usable_size (header_of image)))
+
+-- the image is that of a sound file that is served, with a schema of these rows, in order
+pub record IsStored (image : Image) (rows : List SchemaRow) : Type 0 where
+  pub header : IsHeader (header_of image) (length image * page_size (header_of image))
+  pub cells : List Cell
+  pub leaf : HasCells (first_page image) true (usable_size (header_of image)) (leaf_of cells)
+  pub held : HoldRows (first_page image) cells rows
+  pub numbered : AllByRecursion (λ row. (1 ≤ row.rowid) × (row.rowid < 2 ^ 32)) rows
+  pub ascending : AllPairs (λ a b. a.rowid < b.rowid) rows
+  pub named_apart : AllPairs (λ a b. folded a.name ≢ folded b.name) rows
+  pub rooted : AllByRecursion (HasRoot image) rows
+  pub rooted_apart : AllPairs (λ a b. a.root ≢ b.root) rows
+
+-- the name of a text is the one of both fields of its row, and none that begins as those of SQLite's own tables
+pub record HasItsName (name : List ℕ) (row : SchemaRow) : Type 0 where
+  pub named : folded name ≡ folded row.name
+  pub table_named : folded name ≡ folded row.table
+  pub own : folded (take 7 name) ≢ codes "sqlite_"
+
+-- the text of the row makes the table
+pub record IsSpelled (table : Table) : Type 0 where
+  pub name : List ℕ
+  pub text : SpellsTable table.row.text name table.columns table.columns_end
+  pub its_name : HasItsName name table.row
+  pub columns_apart : AllPairs (λ a b. folded a ≢ folded b) table.columns
+
+abbrev pub rows_of : List Table → List SchemaRow
+rows_of tables = map (λ table. table.row) tables
+
+-- The image holds these tables and nothing else. So far it is exactly one.
+pub record IsFirstForm (image : Image) (tables : List Table) : Type 0 where
+  pub stored : IsStored image (rows_of tables)
+  pub spelled : AllByRecursion IsSpelled tables
+  pub one : length tables ≡ 1
+
+-- the two files are the whole pages of this image, and no journal
+pub record AreFiles (files : Files) (image : Image) : Type 0 where
+  pub journal : files.journal ≡ []
+  pub size : IsTrue (is_page_size (page_size (take 100 files.db)))
+  pub pages : image ≡ pages (page_size (take 100 files.db)) (page_count (take 100 files.db) (length files.db)) files.db
+  pub whole : length files.db ≡ length image * page_size (take 100 files.db)

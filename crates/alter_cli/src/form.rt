@@ -1,0 +1,73 @@
+//! A file that is served, as far as it is read.
+ghost use Rattle.std.specs.Prelude.{◌≡◌, ◌≢◌, ◌≤◌, ◌↔◌, codes, length, take, IsTrue, IfOk, IfSome};
+ghost use Rattle.sql_token.specs.Names.{folded};
+ghost use Rattle.alter_cli.specs.Words.{IsRead};
+ghost use Rattle.alter_cli.specs.FirstForm.{IsSpelled, HasItsName};
+ghost use Rattle.alter_cli.specs.declared.form.Table.{Table};
+
+use crate::header::Sizes;
+use crate::names::Names;
+use crate::schema::SchemaRow;
+use crate::table::{TableText, read_table};
+use alter_bytes::Bytes;
+use sql_token::same_name;
+use std::alloc::{AllocError, Global};
+
+/// A table: its row of the schema, and what its text says.
+#[derive(Drop)]
+pub struct Table {
+    pub row: SchemaRow,
+    pub columns: Names,
+    /// The offset in the text behind the last column.
+    pub columns_end: usize,
+}
+
+/// A file that is served: its page 1 and its one table.
+#[derive(Drop)]
+pub struct Form {
+    pub sizes: Sizes,
+    pub page: Bytes,
+    pub table: Table,
+}
+
+/// Whether the name begins as those of SQLite's own tables do.
+fn is_of_sqlite(name: &[u8]) -> bool
+    ensures { IsTrue result ↔ (folded (take 7 name.now) ≡ codes "sqlite_") }
+{
+    same_name(&name[..name.len().min(7)], b"sqlite_")
+}
+
+/// Whether the text's name is the one of both fields of the row, and not one of SQLite's own.
+fn has_its_name(name: &[u8], row: &SchemaRow) -> bool
+    ensures { IsTrue result ↔ HasItsName name.now row.now }
+{
+    same_name(name, row.name.as_slice())
+        && same_name(name, row.table.as_slice())
+        && !is_of_sqlite(name)
+}
+
+/// The table of a row, if its text is one that is served.
+pub fn table_of(alloc: Global, row: SchemaRow) -> Result<Option<Table>, AllocError>
+    ensures found { IfOk result (λ read. IfSome read (λ table. (table.row ≡ row) × IsSpelled table)) }
+    ensures inside { IfOk result (λ read. IfSome read (λ table. table.columns_end ≤ length table.row.text)) }
+    ensures only { (table : Table) → table.row ≡ row → IsSpelled table → IsRead (λ read. read ≡ table) result }
+{
+    let Some(
+        TableText {
+            name,
+            columns,
+            columns_end,
+        },
+    ) = read_table(alloc, row.text.as_slice())?
+    else {
+        return Ok(None);
+    };
+    if !has_its_name(name.as_slice(), &row) || !columns.are_apart() {
+        return Ok(None);
+    }
+    Ok(Some(Table {
+        row,
+        columns,
+        columns_end,
+    }))
+}

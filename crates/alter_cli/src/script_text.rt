@@ -1,0 +1,66 @@
+//! The script's text out of its source.
+ghost use Rattle.std.specs.Prelude.{◌≡◌, ◌≤◌, ◌<◌, ◌+◌, [], length, drop, Some, IfOk, IsErrOf, is_some};
+ghost use Rattle.alter_disk.specs.Changes.{IfTold};
+ghost use Rattle.alter_disk.specs.Faults.{Rose};
+
+use alter_disk::{Failed, Source};
+use std::alloc::{AllocError, Global};
+
+/// The longest script, in bytes.
+pub const SCRIPT_LIMIT: usize = 1_048_576;
+
+/// The bytes that are asked of the source at once.
+const CHUNK: usize = 4096;
+
+/// Why there is no text.
+#[derive(Drop)]
+pub enum NoText {
+    Memory,
+    Failed,
+    TooLong,
+}
+
+impl From<AllocError> for NoText {
+    ghost use Rattle.std.specs.Prelude.{◌≡◌};
+    ghost use Rattle.alter_cli.specs.declared.script_text.NoText.TheVariants.{Memory};
+
+    ghost from_gives = { λ _ e. e ≡ Memory };
+
+    fn from(_fault: AllocError) -> NoText {
+        NoText::Memory
+    }
+}
+
+impl From<Failed> for NoText {
+    ghost use Rattle.std.specs.Prelude.{◌≡◌};
+    ghost use Rattle.alter_cli.specs.declared.script_text.NoText.TheVariants.{Failed};
+
+    ghost from_gives = { λ _ e. e ≡ Failed };
+
+    fn from(_fault: Failed) -> NoText {
+        NoText::Failed
+    }
+}
+
+/// Reads the source to its end, or to the first byte past the limit.
+pub fn read_text<S: Source>(alloc: Global, script: &mut S) -> Result<Vec<u8>, NoText>
+    ensures limit { IfOk result (λ text. length text.items ≤ SCRIPT_LIMIT) }
+    ensures text { IfOk result (λ text. IfTold (S.left script.old) (λ bytes. bytes ≡ text.items)) }
+    ensures end { IfOk result (λ _. IfTold (S.left script.old) (λ _. S.left script.new ≡ Some [])) }
+    ensures too_long { IsErrOf result NoText.TooLong → IfTold (S.left script.old) (λ bytes. SCRIPT_LIMIT < length bytes) }
+    ensures past { IsErrOf result NoText.TooLong → IfTold (S.left script.old) (λ bytes. S.left script.new ≡ Some (drop (SCRIPT_LIMIT + 1) bytes)) }
+    ensures told { is_some (S.left script.new) ≡ is_some (S.left script.old) }
+    ensures failed { IsErrOf result NoText.Failed → Rose (S.faults script.old) (S.faults script.new) }
+{
+    let mut text = Vec::new(alloc);
+    let mut chunk = [0u8; CHUNK];
+    while text.len() <= SCRIPT_LIMIT {
+        let room = (SCRIPT_LIMIT + 1 - text.len()).min(CHUNK);
+        let count = script.read(&mut chunk[..room])?;
+        if count == 0 {
+            return Ok(text);
+        }
+        text.extend_from_slice(&chunk[..count])?;
+    }
+    Err(NoText::TooLong)
+}

@@ -1,0 +1,102 @@
+//! Why a call ends before its command is run.
+ghost use Rattle.std.specs.Prelude.{◌≡◌};
+
+use crate::file::ReadFault;
+use crate::script_text::NoText;
+use crate::status::Status;
+use std::alloc::AllocError;
+
+/// Why a call ends before its command is run.
+#[derive(Drop)]
+pub enum Stop {
+    /// The words name no file.
+    Misused,
+    /// The script is longer than the limit.
+    TooLong,
+    /// The script is none that is served.
+    Unspelled,
+    /// The script's source failed.
+    Unread,
+    /// The file is none that is served.
+    Unserved,
+    /// The disk failed at reading.
+    Unreadable,
+    /// The disk failed at writing.
+    Unwritten,
+    /// The sink failed.
+    Unprinted,
+    Memory,
+}
+
+impl From<AllocError> for Stop {
+    ghost use Rattle.std.specs.Prelude.{◌≡◌};
+    ghost use Rattle.alter_cli.specs.declared.stop.Stop.TheVariants.{Memory};
+
+    ghost from_gives = { λ _ e. e ≡ Memory };
+
+    fn from(_fault: AllocError) -> Stop {
+        Stop::Memory
+    }
+}
+
+impl From<NoText> for Stop {
+    ghost use Rattle.alter_cli.specs.StopOf.{stop_of_text};
+    ghost use Rattle.std.specs.Prelude.{◌≡◌};
+
+    ghost from_gives = { λ fault e. e ≡ stop_of_text fault };
+
+    fn from(fault: NoText) -> Stop {
+        match fault {
+            NoText::Memory => Stop::Memory,
+            NoText::Failed => Stop::Unread,
+            NoText::TooLong => Stop::TooLong,
+        }
+    }
+}
+
+impl From<ReadFault> for Stop {
+    ghost use Rattle.alter_cli.specs.StopOf.{stop_of_read};
+    ghost use Rattle.std.specs.Prelude.{◌≡◌};
+
+    ghost from_gives = { λ fault e. e ≡ stop_of_read fault };
+
+    fn from(fault: ReadFault) -> Stop {
+        match fault {
+            ReadFault::Memory => Stop::Memory,
+            ReadFault::Failed => Stop::Unreadable,
+        }
+    }
+}
+
+impl Stop {
+    ghost use Rattle.alter_cli.specs.Ending.{stop_status, stop_line};
+
+    /// The status of the call.
+    pub fn status(&self) -> Status
+        ensures { result ≡ stop_status self.now }
+    {
+        match self {
+            Stop::Misused => Status::Usage,
+            Stop::TooLong | Stop::Unspelled => Status::Script,
+            Stop::Unserved => Status::File,
+            Stop::Memory => Status::Memory,
+            Stop::Unread | Stop::Unreadable | Stop::Unwritten | Stop::Unprinted => Status::Fault,
+        }
+    }
+
+    /// The last line of the call. A sink that failed gets none.
+    pub fn line(&self) -> &'static str
+        ensures { result.now ≡ stop_line self.now }
+    {
+        match self {
+            Stop::Misused => "usage: sqlalter FILE\n",
+            Stop::TooLong => "script 1048576 too-long\n",
+            Stop::Unspelled => "script 0 unbuilt\n",
+            Stop::Unread | Stop::Unreadable => "fault read\n",
+            Stop::Unserved => "file unbuilt\n",
+            Stop::Unwritten => "fault write\n",
+            Stop::Unprinted => "",
+            Stop::Memory => "memory\n",
+        }
+    }
+}

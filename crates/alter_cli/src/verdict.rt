@@ -1,0 +1,19 @@
+//! Verdicts on commands.
+
+/// The restriction that a refused command breaks first.
+#[derive(Clone, Copy, Debug, PartialEq, Eq)]
+pub enum Refusal {
+    /// No table has the name.
+    NoSuchTable,
+    /// The command is not served yet.
+    Unbuilt,
+}
+
+/// What is said of one command.
+#[derive(Clone, Copy, Debug, PartialEq, Eq)]
+pub enum Verdict {
+    /// It is committed.
+    Done,
+    /// It is refused and changed nothing.
+    Refused(Refusal),
+}

@@ -1,0 +1,82 @@
+//! The disk as the pager sees it.
+ghost use Rattle.std.specs.Prelude.{◌≡◌, ◌⊎◌, ◌+◌, ◌^◌, ◌≤◌, ℕ, Bool, true, false, List, length, is_ok, IfSome, IsSomeAnd, IfOk, OnOk, OnErr, Option};
+ghost use Rattle.alter_disk.specs.Files.{Files, file};
+ghost use Rattle.alter_disk.specs.Changes.{IfTold, ReadsAt, Written, TornIn, CutTo, CutIn};
+ghost use Rattle.alter_disk.specs.Faults.{HasCause, HasOpenCause};
+ghost use Rattle.alter_disk.specs.Rest.{KeepsRest};
+
+use crate::{Failed, OpenFault, Which};
+
+/// A disk with two files. Offsets and lengths are in bytes, from 0.
+///
+/// Where a disk tells nothing of its bytes, the clauses on bytes are empty and those on faults hold.
+pub trait Disk: Drop {
+    /// The one name that it takes, where it tells one.
+    ghost label: { Self → Option (List ℕ) };
+
+    /// Whether `open` has been called.
+    ghost called: { Self → Bool };
+
+    /// Whether `open` has succeeded.
+    ghost opened: { Self → Bool };
+
+    /// The bytes of both files as a read gives them, where it tells them.
+    ghost files: { Self → Option Files };
+
+    /// How often a call of `open`, `len` or `read` has failed.
+    ghost read_faults: { Self → ℕ };
+
+    /// How often a call of `write`, `cut` or `sync` has failed.
+    ghost write_faults: { Self → ℕ };
+
+    /// Opens the database `name`, which has to be there, and its journal, which is made empty where it
+    /// is missing. It comes once, before all other calls.
+    fn open(&mut self, name: &str) -> Result<(), OpenFault>
+        requires first { called self.old ≡ false }
+        requires name { IfSome (label self.old) (λ known. name.now ≡ known) }
+        ensures called { called self.new ≡ true }
+        ensures opened { opened self.new ≡ is_ok result }
+        ensures files { files self.new ≡ files self.old }
+        ensures label { label self.new ≡ label self.old }
+        ensures cause { HasOpenCause (read_faults self.old) (read_faults self.new) result }
+        ensures other { write_faults self.new ≡ write_faults self.old };
+
+    /// The length of a file.
+    fn len(&mut self, which: Which) -> Result<u64, Failed>
+        ensures len { IfOk result (λ n. IfTold (files self.old) (λ f. n ≡ length (file which f))) }
+        ensures files { files self.new ≡ files self.old }
+        ensures rest { KeepsRest label called opened write_faults self.old self.new }
+        ensures cause { HasCause (read_faults self.old) (read_faults self.new) result };
+
+    /// Reads from `at` on, and answers how many bytes came: fewer than asked only at the file's end.
+    /// After a fault the buffer may hold anything.
+    fn read(&mut self, which: Which, at: u64, buf: &mut [u8]) -> Result<usize, Failed>
+        requires { (at ≤ 2 ^ 30) ⊎ IsSomeAnd (files self.old) (λ f. at ≤ length (file which f)) }
+        ensures count { IfOk result (λ n. n ≤ length buf.old) }
+        ensures read { IfOk result (λ n. IfTold (files self.old) (λ f. ReadsAt (file which f) at n buf.old buf.new)) }
+        ensures files { files self.new ≡ files self.old }
+        ensures rest { KeepsRest label called opened write_faults self.old self.new }
+        ensures cause { HasCause (read_faults self.old) (read_faults self.new) result };
+
+    /// Writes over what is there and past the end. Between the old end and `at` there are zeros then.
+    fn write(&mut self, which: Which, at: u64, bytes: &[u8]) -> Result<(), Failed>
+        requires { at + length bytes.now ≤ 2 ^ 30 }
+        ensures written { OnOk result (Written which at bytes.now (files self.old) (files self.new)) }
+        ensures torn { OnErr result (TornIn which at (length bytes.now) (files self.old) (files self.new)) }
+        ensures rest { KeepsRest label called opened read_faults self.old self.new }
+        ensures cause { HasCause (write_faults self.old) (write_faults self.new) result };
+
+    /// Shortens a file to `len` bytes.
+    fn cut(&mut self, which: Which, len: u64) -> Result<(), Failed>
+        requires { IfTold (files self.old) (λ f. len ≤ length (file which f)) }
+        ensures cut { OnOk result (CutTo which len (files self.old) (files self.new)) }
+        ensures torn { OnErr result (CutIn which len (files self.old) (files self.new)) }
+        ensures rest { KeepsRest label called opened read_faults self.old self.new }
+        ensures cause { HasCause (write_faults self.old) (write_faults self.new) result };
+
+    /// Makes durable what a read gives of this file.
+    fn sync(&mut self, which: Which) -> Result<(), Failed>
+        ensures files { files self.new ≡ files self.old }
+        ensures rest { KeepsRest label called opened read_faults self.old self.new }
+        ensures cause { HasCause (write_faults self.old) (write_faults self.new) result };
+}

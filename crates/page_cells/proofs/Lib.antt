@@ -1,0 +1,5 @@
+pub mod CellsLemmas
+pub mod LayoutLemmas
+pub mod LeafLemmas
+pub mod TakenLemmas
+pub mod WriteLemmas

@@ -1,0 +1,4 @@
+pub mod Cells
+pub mod Layout
+pub mod Taken
+pub mod Write

@@ -1,0 +1,151 @@
+ghost use Rattle.std.specs.Prelude.{◌≡◌, ◌≤◌, ◌<◌, ◌+◌, ◌-◌, ◌*◌, ◌++◌, ◌%◌, ◌↔◌, length, replicate, IsTrue, All};
+ghost use Rattle.alter_bytes.specs.Field.{overlaid};
+ghost use Rattle.page_cells.specs.Layout.{IsUsable};
+ghost use Rattle.page_cells.specs.Write.{Fits, HoldsCells, IsWholeCell, cell_bytes, header_bytes, pointer_bytes, room, rooms, written_page};
+
+use crate::Kind;
+use crate::layout::header_at;
+use alter_bytes::{Bytes, write_u16};
+
+/// The first byte of a leaf page of a table tree.
+const TABLE_LEAF: u8 = 13;
+
+/// The length in bytes of a leaf page's own header.
+const HEADER_LEN: usize = 8;
+
+/// The length in bytes of a pointer to a cell.
+const POINTER_LEN: usize = 2;
+
+/// The fewest bytes that a cell takes of its page.
+const LEAST_ROOM: usize = 4;
+
+/// Whether a leaf page of a table tree has room for its header, these whole cells and their pointers.
+/// `first` says that it is page 1, and `usable` is the size of a page less its reserved bytes.
+pub fn fits(first: bool, usable: usize, kind: Kind, cells: &[Bytes]) -> bool
+    requires leaf { kind ≡ Kind.TableLeaf }
+    requires least { 480 ≤ usable }
+    requires most { usable ≤ 65536 }
+    ensures { IsTrue result ↔ Fits first usable cells.now }
+{
+    prove!(kind == Kind::TableLeaf);
+    let mut free = usable - header_at(first) - HEADER_LEN;
+    for cell in cells {
+        let room = room_of(cell);
+        if free < POINTER_LEN || free - POINTER_LEN < room {
+            return false;
+        }
+        free -= POINTER_LEN + room;
+    }
+    true
+}
+
+/// Writes a leaf page of a table tree with these cells. The file's header on page 1 and the bytes
+/// behind the usable ones stay.
+pub fn write_page(
+    page: &mut [u8],
+    first: bool,
+    usable: usize,
+    kind: Kind,
+    right: Option<u32>,
+    cells: &[Bytes],
+)
+    requires leaf { kind ≡ Kind.TableLeaf }
+    requires no_right { right ≡ None }
+    requires usable { IsUsable usable (length page.old) }
+    requires whole { All (IsWholeCell usable) cells.now }
+    requires fits { Fits first usable cells.now }
+    ensures written { page.new ≡ written_page page.old first usable cells.now }
+    ensures cells { HoldsCells page.new first usable cells.now }
+{
+    prove!(kind == Kind::TableLeaf && right.is_none());
+    let header = header_at(first);
+    let pointers = header + HEADER_LEN;
+    let free = pointers + POINTER_LEN * cells.len();
+    let content = usable - total_room(cells);
+    write_header(page, header, cells.len(), content);
+    write_pointers(page, pointers, content, cells);
+    clear(page, free, content);
+    write_cells(page, content, cells);
+}
+
+/// The bytes that the cell takes of its page.
+fn room_of(cell: &Bytes) -> usize
+    ensures { result ≡ room cell.now }
+{
+    cell.len().max(LEAST_ROOM)
+}
+
+/// The bytes that the cells take of their page.
+fn total_room(cells: &[Bytes]) -> usize
+    requires { rooms cells.now ≤ 65536 }
+    ensures { result ≡ rooms cells.now }
+{
+    cells.iter().map(|cell| room_of(cell)).sum()
+}
+
+/// Writes the page's own header at `at`, for cells that begin at `content`.
+fn write_header(page: &mut [u8], at: usize, count: usize, content: usize)
+    requires room { at + 8 ≤ length page.old }
+    requires few { count < 65536 }
+    ensures { page.new ≡ overlaid page.old at (header_bytes count content) }
+{
+    let mut bytes = [TABLE_LEAF, 0, 0, 0, 0, 0, 0, 0];
+    write_u16(&mut bytes, 3, count as u16);
+    write_u16(&mut bytes, 5, (content % 65536) as u16);
+    write_bytes(page, at, &bytes);
+}
+
+/// Writes the pointers at `at`, to cells that stand one after the other from `content` on.
+fn write_pointers(page: &mut [u8], at: usize, content: usize, cells: &[Bytes])
+    requires room { at + 2 * length cells.now ≤ length page.old }
+    requires below { content + rooms cells.now ≤ 65536 }
+    ensures { page.new ≡ overlaid page.old at (pointer_bytes content cells.now) }
+{
+    let mut place = at;
+    let mut start = content;
+    for cell in cells {
+        write_u16(page, place, start as u16);
+        place += POINTER_LEN;
+        start += room_of(cell);
+    }
+}
+
+/// Writes the bytes at `at`.
+fn write_bytes(page: &mut [u8], at: usize, bytes: &[u8])
+    requires { at + length bytes.now ≤ length page.old }
+    ensures { page.new ≡ overlaid page.old at bytes.now }
+{
+    page[at..at + bytes.len()].copy_from_slice(bytes);
+}
+
+/// Writes zeros from `start` to `end`.
+fn clear(page: &mut [u8], start: usize, end: usize)
+    requires order { start ≤ end }
+    requires within { end ≤ length page.old }
+    ensures { page.new ≡ overlaid page.old start (replicate (end - start) 0) }
+{
+    page[start..end].fill(0);
+}
+
+/// Writes the cells one after the other from `content` on, each filled with zeros to its room.
+fn write_cells(page: &mut [u8], content: usize, cells: &[Bytes])
+    requires { content + rooms cells.now ≤ length page.old }
+    ensures { page.new ≡ overlaid page.old content (cell_bytes cells.now) }
+{
+    let mut start = content;
+    for cell in cells {
+        let end = start + room_of(cell);
+        write_cell(page, start, end, cell);
+        start = end;
+    }
+}
+
+/// Writes the cell at `start`, filled with zeros to `end`.
+fn write_cell(page: &mut [u8], start: usize, end: usize, cell: &Bytes)
+    requires order { start + length cell.now ≤ end }
+    requires within { end ≤ length page.old }
+    ensures { page.new ≡ overlaid page.old start (cell.now ++ replicate (end - (start + length cell.now)) 0) }
+{
+    write_bytes(page, start, cell.as_slice());
+    clear(page, start + cell.len(), end);
+}

@@ -1,0 +1,12 @@
+pub mod Enclosed
+pub mod Fillers
+pub mod Fronts
+pub mod Keywords
+pub mod Names
+pub mod Numbers
+pub mod Operators
+pub mod Places
+pub mod Quotes
+pub mod Runs
+pub mod TokenLists
+pub mod Words

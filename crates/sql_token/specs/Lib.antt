@@ -1,0 +1,7 @@
+pub mod Byte
+pub mod Filler
+pub mod Form
+pub mod Keyword
+pub mod Names
+pub mod Scan
+pub mod Token
