@@ -1,0 +1,5 @@
+//! Whole runs of the program over all of its crates. It has tests alone.
+#![tactic(auto)]
+
+#[cfg(test)]
+mod tests;
