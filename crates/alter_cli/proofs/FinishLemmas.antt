@@ -193,7 +193,7 @@ pub misused_told : (Sunk : Type 0) (status : Status) (given now : Option (List �
     → IfTold given (λ w. IsSomeAnd now (λ n. MisusedCall Sunk w n status))
 misused_told Sunk status None now is = tt
 misused_told Sunk status (Some w) None is = absurd is
-misused_told Sunk status (Some w) (Some n) is = inl (last_told Sunk Sunk Misused status w w n (λ x. x) refl is)
+misused_told Sunk status (Some w) (Some n) is = last_told Sunk Sunk Misused status w w n (λ x. x) refl is
 
 -- a fact holds where there is no value
 pub if_none : {A : Type 0} (option : Option A) (P : Type 0) → P → IfNone option P

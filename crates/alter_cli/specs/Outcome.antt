@@ -128,4 +128,4 @@ pub record Performed (Unread Read Write Sunk : Type 0) (text : List ℕ) (before
 
 -- the call whose words name no file ended with this status
 abbrev pub Misused : Type 0 → List ℕ → List ℕ → Status → Type 0
-Misused Sunk given now status = Told Sunk Usage [] usage_line given now status ⊎ Told Sunk Memory [] memory_line given now status
+Misused Sunk given now status = Told Sunk Usage [] usage_line given now status

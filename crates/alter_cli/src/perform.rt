@@ -119,6 +119,9 @@ pub fn sqlalter<D: Disk, S: Source, K: Sink>(
     ensures misused { IfNone (file_of (map string_bytes words.now)) (IfTold (K.written out.old) (λ given.
         IsSomeAnd (K.written out.new) (λ now. Misused (Rose (K.faults out.old) (K.faults out.new)) given now result.status))) }
     ensures unread { IfNone (file_of (map string_bytes words.now)) (script.new ≡ script.old) }
+    ensures unopened { IfNone (file_of (map string_bytes words.now)) (result.disk ≡ disk) }
+    ensures nameless { IfNone (file_of (map string_bytes words.now))
+        ((result.status ≡ Status.Usage) ⊎ ((result.status ≡ Status.Fault) × Rose (K.faults out.old) (K.faults out.new))) }
     ensures usage { result.status ≡ Status.Usage → IsNone (file_of (map string_bytes words.now)) }
     ensures untouched { (result.status ≡ Status.Script) ⊎ (result.status ≡ Status.Usage) → result.disk ≡ disk }
 
