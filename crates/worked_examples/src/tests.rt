@@ -1,4 +1,4 @@
-ghost use Rattle.std.specs.Prelude.{◌≡◌, map, string_bytes, Some, IfOk};
+ghost use Rattle.std.specs.Prelude.{◌≡◌, map, string_bytes, Some, None, IfOk};
 ghost use Rattle.alter_cli.specs.Outcome.{file_of};
 
 use alter_cli::{Ended, sqlalter};
@@ -130,4 +130,158 @@ fn a_column_is_added_in_files(rt: HostRuntime) -> Result<(), Fail> {
     assert!(rt; after.as_slice() == new.as_slice(), "another database");
     assert!(rt; journal.is_empty());
     Ok(())
+}
+
+#[test]
+fn commands_and_scripts_are_refused(rt: HostRuntime) -> Result<(), Fail> {
+    let old = old_database(rt.alloc())?;
+    let unbuilt = b"script 0 unbuilt\n".as_slice();
+    let table = [
+        (
+            b"ALTER TABLE u ADD COLUMN c".as_slice(),
+            1,
+            b"1 refused no-such-table\n".as_slice(),
+        ),
+        (
+            b"ALTER TABLE t ADD COLUMN B".as_slice(),
+            1,
+            b"1 refused unbuilt\n".as_slice(),
+        ),
+        (b"".as_slice(), 2, unbuilt),
+        (
+            b"ALTER TABLE t ADD c; ALTER TABLE t ADD d".as_slice(),
+            2,
+            unbuilt,
+        ),
+        (b"ALTER TABLE t ADD 'c".as_slice(), 2, unbuilt),
+        (b"ALTER TABLE t ADD index".as_slice(), 2, unbuilt),
+    ];
+    for (script, code, lines) in table {
+        let given = Given {
+            db: old.as_slice(),
+            journal: &[],
+            script,
+            fails: &[],
+        };
+        given.gives(&rt, rt.alloc(), code, lines, old.as_slice())?;
+    }
+    Ok(())
+}
+
+#[test]
+fn a_script_may_be_too_long(rt: HostRuntime) -> Result<(), Fail> {
+    let old = old_database(rt.alloc())?;
+    let spaces = vec![in rt.alloc(); b' '; 1_048_577]?;
+    for (length, lines) in [
+        (1_048_576, b"script 0 unbuilt\n".as_slice()),
+        (1_048_577, b"script 1048576 too-long\n".as_slice()),
+    ] {
+        let script = spaces.get(..length).ok_or("too few spaces")?;
+        let given = Given {
+            db: old.as_slice(),
+            journal: &[],
+            script,
+            fails: &[],
+        };
+        given.gives(&rt, rt.alloc(), 2, lines, old.as_slice())?;
+    }
+    Ok(())
+}
+
+#[test]
+fn files_are_refused(rt: HostRuntime) -> Result<(), Fail> {
+    let old = old_database(rt.alloc())?;
+    let mut ahead = old_database(rt.alloc())?;
+    *ahead.get_mut(18).ok_or("no write version")? = 2;
+    let mut filled = old_database(rt.alloc())?;
+    *filled.get_mut(4096).ok_or("no second page")? = 5;
+    let table = [
+        (old.get(..99).ok_or("too short")?, b"".as_slice()),
+        (old.get(..8191).ok_or("too short")?, b"".as_slice()),
+        (ahead.as_slice(), b"".as_slice()),
+        (filled.as_slice(), b"".as_slice()),
+        (old.as_slice(), b"j".as_slice()),
+    ];
+    for (db, journal) in table {
+        let given = Given {
+            db,
+            journal,
+            script: ADD_C,
+            fails: &[],
+        };
+        given.gives(&rt, rt.alloc(), 3, b"file unbuilt\n", db)?;
+    }
+    Ok(())
+}
+
+#[test]
+fn each_call_of_the_disk_may_fail(rt: HostRuntime) -> Result<(), Fail> {
+    let old = old_database(rt.alloc())?;
+    let new = new_database(rt.alloc())?;
+    // To open, both lengths, three reads, a write and a sync.
+    let table = [
+        (0, 4, b"fault read\n".as_slice(), old.as_slice()),
+        (1, 4, b"fault read\n".as_slice(), old.as_slice()),
+        (2, 4, b"fault read\n".as_slice(), old.as_slice()),
+        (3, 4, b"fault read\n".as_slice(), old.as_slice()),
+        (4, 4, b"fault read\n".as_slice(), old.as_slice()),
+        (5, 4, b"fault read\n".as_slice(), old.as_slice()),
+        (6, 4, b"fault write\n".as_slice(), old.as_slice()),
+        (7, 4, b"fault write\n".as_slice(), new.as_slice()),
+        (8, 0, b"1 ok\n".as_slice(), new.as_slice()),
+    ];
+    for (call, code, lines, after) in table {
+        let fails = [call];
+        let given = Given {
+            db: old.as_slice(),
+            journal: &[],
+            script: ADD_C,
+            fails: &fails,
+        };
+        given.gives(&rt, rt.alloc(), code, lines, after)?;
+    }
+    Ok(())
+}
+
+#[test]
+fn a_sink_may_fail(rt: HostRuntime) -> Result<(), Fail> {
+    let old = old_database(rt.alloc())?;
+    let new = new_database(rt.alloc())?;
+    let given = Given {
+        db: old.as_slice(),
+        journal: &[],
+        script: ADD_C,
+        fails: &[],
+    };
+    for (room, fails) in [(99, [0].as_slice()), (3, [].as_slice())] {
+        let mut out = ListSink::new(rt.alloc(), room, fails)?;
+        let ended = given.run(rt.alloc(), &mut out)?;
+        assert!(rt; out.written().is_empty());
+        assert_eq!(rt; ended.status.code(), 4);
+        assert!(rt; ended.disk.bytes(Which::Db) == new.as_slice());
+    }
+    Ok(())
+}
+
+/// Runs a call whose words name no file.
+fn misuse(rt: &impl Abort, alloc: Global, words: &[String]) -> Result<(), Fail>
+    requires { file_of (map string_bytes words.now) ≡ None }
+{
+    let disk = MemoryDisk::new(alloc, "a.db", &[], &[], 0, 0, &[])?;
+    let mut script = ListSource::new(alloc, ADD_C)?;
+    let mut out = ListSink::new(alloc, 99, &[])?;
+    let ended = sqlalter(alloc, words, disk, &mut script, &mut out);
+    assert_eq!(rt; out.written(), b"usage: sqlalter FILE\n".as_slice());
+    assert_eq!(rt; ended.status.code(), 64);
+    Ok(())
+}
+
+#[test]
+fn the_words_name_one_file(rt: HostRuntime) -> Result<(), Fail> {
+    let program = String::from_str(rt.alloc(), "sqlalter")?;
+    misuse(&rt, rt.alloc(), &[program])?;
+    let program = String::from_str(rt.alloc(), "sqlalter")?;
+    let file = String::from_str(rt.alloc(), "a.db")?;
+    let other = String::from_str(rt.alloc(), "b.db")?;
+    misuse(&rt, rt.alloc(), &[program, file, other])
 }
