@@ -1,12 +1,11 @@
 //! ALTER TABLE on a SQLite database file, by a script on standard input.
 #![tactic(auto)]
 
+use alter_cli::{Ended, Status, sqlalter};
+use alter_disk::{FileDisk, StdSink, StdSource};
 use std::alloc::AllocError;
 use std::env;
 use std::process::ExitCode;
-
-use alter_cli::{Ended, Status, sqlalter};
-use alter_disk::{FileDisk, StdSink, StdSource};
 
 /// Ends with the status of the run; words that aren't UTF-8 name no file.
 fn main(rt: HostRuntime) -> ExitCode {
