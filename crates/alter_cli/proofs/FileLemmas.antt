@@ -6,11 +6,11 @@ use Rattle.std.proofs.lemmas.List.{nil_from_length}
 use Rattle.alter_disk.specs.Files.{Files}
 use Rattle.alter_disk.specs.Changes.{IfTold}
 use Rattle.alter_cli.specs.declared.header.Sizes.{Sizes}
-use Rattle.alter_cli.specs.declared.schema.SchemaRow.{SchemaRow}
+use Rattle.schema_rows.specs.declared.schema.SchemaRow.{SchemaRow}
 use Rattle.alter_cli.specs.Image.{page_bytes}
 use Rattle.alter_cli.specs.Header.{IsHeader, page_size, usable_size}
 use Rattle.alter_cli.specs.Sizes.{HasSizes}
-use Rattle.alter_cli.specs.FirstPage.{HoldsOne, IsEmptyTable}
+use Rattle.alter_cli.specs.FirstPage.{HoldsRows, IsEmptyTable}
 use Rattle.alter_cli.specs.Served.{IsOpening, HasFront, HasEmptyRoot}
 use Rattle.alter_cli.proofs.ImageLemmas.{page_size-bounds}
 
@@ -33,7 +33,8 @@ no_lengths (Some files) journal db is (inr short) = λ empty header.
     omega arith
 
 -- the header that was read is that of the file
-header_read : (files : Files) (journal db : ℕ) (first : List ℕ) → Lengths journal db files → 100 ≤ db → Filled 0 100 first files → first ≡ take 100 files.db
+header_read : (files : Files) (journal db : ℕ) (first : List ℕ) → Lengths journal db files → 100 ≤ db → Filled 0 100 first files
+    → first ≡ take 100 files.db
 header_read files journal db first is long filled =
     let same = is.1 in
     filled (omega arith)
@@ -94,21 +95,21 @@ root_read (Some files) sizes root page empty behind there read is = λ inside.
       λ has. is.1 (subst (λ (p : List ℕ). IsEmptyTable sizes.usable p) (sym bytes) has.empty),
     )
 
--- the row of page 1 of the files, on the page that was read
-pub front_one : (files : Files) (sizes : Sizes) (first page : List ℕ) (row : SchemaRow) → IsOpening files sizes first
-    → page ≡ take sizes.page files.db → HasFront files row → HoldsOne page sizes.usable row
-front_one files sizes first page row opening bytes front =
-    subst (λ (p : List ℕ). HoldsOne p sizes.usable row) (ap (λ (k : ℕ). take k files.db) (sym opening.sized.page) ∙ sym bytes)
-    (subst (λ (u : ℕ). HoldsOne (take (page_size (take 100 files.db)) files.db) u row) (sym opening.sized.usable) front.one)
+-- the rows of page 1 of the files, on the page that was read
+pub front_held : (files : Files) (sizes : Sizes) (first page : List ℕ) (rows : List SchemaRow) → IsOpening files sizes first
+    → page ≡ take sizes.page files.db → HasFront files rows → HoldsRows page sizes.usable rows
+front_held files sizes first page rows opening bytes front =
+    subst (λ (p : List ℕ). HoldsRows p sizes.usable rows) (ap (λ (k : ℕ). take k files.db) (sym opening.sized.page) ∙ sym bytes)
+    (subst (λ (u : ℕ). HoldsRows (take (page_size (take 100 files.db)) files.db) u rows) (sym opening.sized.usable) front.held)
 
--- what was read on page 1 is the row of the files
-pub front_row : (files : Files) (sizes : Sizes) (first page : List ℕ) (row : SchemaRow) → IsOpening files sizes first
-    → page ≡ take sizes.page files.db → HoldsOne page sizes.usable row → HasFront files row
-front_row files sizes first page row opening bytes one = record {
+-- what was read on page 1 are the rows of the files
+pub front_rows : (files : Files) (sizes : Sizes) (first page : List ℕ) (rows : List SchemaRow) → IsOpening files sizes first
+    → page ≡ take sizes.page files.db → HoldsRows page sizes.usable rows → HasFront files rows
+front_rows files sizes first page rows opening bytes held = record {
   journal = opening.journal;
   header = opening.header;
-  one = subst (λ (p : List ℕ). HoldsOne p (usable_size (take 100 files.db)) row) (bytes ∙ ap (λ (k : ℕ). take k files.db) opening.sized.page)
-      (subst (λ (u : ℕ). HoldsOne page u row) opening.sized.usable one);
+  held = subst (λ (p : List ℕ). HoldsRows p (usable_size (take 100 files.db)) rows) (bytes ∙ ap (λ (k : ℕ). take k files.db) opening.sized.page)
+      (subst (λ (u : ℕ). HoldsRows page u rows) opening.sized.usable held);
 }
 
 -- the pages of a header lie in the file

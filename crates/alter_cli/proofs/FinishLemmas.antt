@@ -1,19 +1,21 @@
 -- The last line of a call makes its outcome whole.
-use Rattle.std.proofs.Common.{◌≡◌, ◌≤◌, ℕ, Bool, inl, inr, Option, Some, None, option_map, Ok, Err, IfNone, IsSomeAnd, List, [], ◌∷◌, ◌++◌, refl, sym, ◌∙◌, ap, subst, arith}
+use Rattle.std.proofs.Common.{◌≡◌, ◌≤◌, ℕ, ◌+◌, Bool, inl, inr, Option, Some, None, option_map, Ok, Err, IfNone, IsSomeAnd, List, [], ◌∷◌, ◌++◌, length, refl, sym, ◌∙◌, ap, subst, arith}
 use Rattle.std.proofs.lemmas.List.{append-nil}
 use Rattle.alter_disk.specs.Files.{Files}
 use Rattle.alter_disk.specs.Changes.{IfTold}
 use Rattle.alter_disk.specs.Faults.{Rose}
 use Rattle.alter_cli.specs.declared.stop.Stop.{Stop}
-use Rattle.alter_cli.specs.declared.stop.Stop.TheVariants.{Misused, TooLong, Unspelled, Unread, Unserved, Unreadable, Unwritten, Unprinted, Memory}
+use Rattle.alter_cli.specs.declared.stop.Stop.TheVariants.{Misused, Unprinted}
 use Rattle.alter_cli.specs.declared.status.Status.{Status}
 use Rattle.alter_cli.specs.declared.status.Status.TheVariants as statuses
 use Rattle.alter_cli.specs.declared.verdict.Verdict.{Verdict}
 use Rattle.alter_cli.specs.Given.{HasFront}
-use Rattle.alter_cli.specs.Lines.{verdict_line, verdict_lines}
+use Rattle.alter_cli.specs.Lines.{verdict_lines}
 use Rattle.alter_cli.specs.Outcome.{Outcome, Told, Misused as MisusedCall}
-use Rattle.alter_cli.specs.Ending.{WhereTold, RanSo, IsLast, IsPerformed, status_of, stop_status, stop_line}
+use Rattle.alter_cli.specs.Ending.{WhereTold, RanSo, IsLast, IsPerformed, run_status, stop_status, stop_line}
+use Rattle.alter_cli.proofs.Grown.{verdict_lines-one}
 
+-- equal bytes
 some_is : (a b : List ℕ) → ◌≡◌ {A = Option (List ℕ)} (Some a) (Some b) → a ≡ b
 some_is a b e = cc
 
@@ -29,32 +31,23 @@ rose_before a b c later rose = omega arith
 pub outcome_later : (Source Read Write Part Sunk : Type 0) (text : List ℕ) (before : Files) (status : Status) (verdicts : List Verdict) (last : List ℕ)
     (after : Files) (called : Bool) (left : List ℕ) → (Part → Sunk) → Outcome Source Read Write Part text before status verdicts last after called left
     → Outcome Source Read Write Sunk text before status verdicts last after called left
-outcome_later Source Read Write Part Sunk text before statuses.Done verdicts last after called left later is = is
-outcome_later Source Read Write Part Sunk text before statuses.Refused verdicts last after called left later is = is
-outcome_later Source Read Write Part Sunk text before statuses.Script verdicts last after called left later is = is
-outcome_later Source Read Write Part Sunk text before statuses.File verdicts last after called left later is = is
-outcome_later Source Read Write Part Sunk text before statuses.Memory verdicts last after called left later is = is
-outcome_later Source Read Write Part Sunk text before statuses.Usage verdicts last after called left later is = is
 outcome_later Source Read Write Part Sunk text before statuses.Fault verdicts last after called left later (inl is) = inl is
 outcome_later Source Read Write Part Sunk text before statuses.Fault verdicts last after called left later (inr (inl is)) = inr (inl is)
 outcome_later Source Read Write Part Sunk text before statuses.Fault verdicts last after called left later (inr (inr (inl is))) = inr (inr (inl is))
 outcome_later Source Read Write Part Sunk text before statuses.Fault verdicts last after called left later (inr (inr (inr is))) =
     inr (inr (inr (later is.0, is.1, is.2)))
+outcome_later Source Read Write Part Sunk text before status verdicts last after called left later is = is
 
--- the one line of a verdict
-one_line : (verdict : Verdict) → verdict_lines 1 (verdict ∷ []) ≡ verdict_line 1 verdict
-one_line verdict = append-nil (verdict_line 1 verdict)
-
--- a call with a verdict is whole
-pub performed_ok : (Source Read Write Sunk : Type 0) (called : Bool) (verdict : Verdict) (text left : List ℕ) (before after : Files) (given now : List ℕ)
-    → RanSo Source Read Write Sunk called (Ok verdict) text left before after given now
-    → IsPerformed Source Read Write Sunk called (status_of verdict) text left before after given now
-performed_ok Source Read Write Sunk called verdict text left before after given now is = record {
-  planned = status_of verdict;
-  verdicts = verdict ∷ [];
+-- a call that ran its commands is whole
+pub performed_ok : (Source Read Write Sunk : Type 0) (called all_done : Bool) (text left : List ℕ) (before after : Files) (given now : List ℕ)
+    → RanSo Source Read Write Sunk called (Ok all_done) text left before after given now
+    → IsPerformed Source Read Write Sunk called (run_status all_done) text left before after given now
+performed_ok Source Read Write Sunk called all_done text left before after given now is = record {
+  planned = run_status all_done;
+  verdicts = is.0;
   last = [];
-  outcome = is.0;
-  told = inl (refl, is.1 ∙ ap (λ (l : List ℕ). given ++ l) (sym (one_line verdict)) ∙ sym (append-nil (given ++ verdict_lines 1 (verdict ∷ []))));
+  outcome = is.1;
+  told = inl (refl, is.2 ∙ sym (append-nil (given ++ verdict_lines 1 is.0)));
 }
 
 -- nothing was there in front of nothing
@@ -62,38 +55,39 @@ nothing : (a b : List ℕ) → [] ≡ a ++ b → a ≡ []
 nothing [] b e = refl
 nothing (x ∷ a) b e = absurd cc
 
--- the line of a stop without a verdict is told
-last_told : (Part Sunk : Type 0) (stop : Stop) (status : Status) (given mid now : List ℕ) → (Part → Sunk) → mid ≡ given → IsLast Part stop status mid now
-    → Told Sunk (stop_status stop) [] (stop_line stop) given now status
-last_told Part Sunk stop status given mid now later same (inl is) =
-    inl (is.0, is.1 ∙ ap (λ (g : List ℕ). g ++ stop_line stop) (same ∙ sym (append-nil given)))
-last_told Part Sunk stop status given mid now later same (inr is) =
+-- the line of a stop is told behind those of the verdicts
+last_told : (Part Sunk : Type 0) (stop : Stop) (status : Status) (verdicts : List Verdict) (given mid now : List ℕ) → (Part → Sunk)
+    → mid ≡ given ++ verdict_lines 1 verdicts → IsLast Part stop status mid now
+    → Told Sunk (stop_status stop) verdicts (stop_line stop) given now status
+last_told Part Sunk stop status verdicts given mid now later same (inl is) = inl (is.0, is.1 ∙ ap (λ (g : List ℕ). g ++ stop_line stop) same)
+last_told Part Sunk stop status verdicts given mid now later same (inr is) =
     inr (
       later is.0,
       is.1,
       (
-        [],
+        verdicts,
         [],
         is.2.front,
         is.2.rest,
-        refl,
+        sym (append-nil verdicts),
         omega arith,
-        some_is now (mid ++ is.2.front) is.2.written ∙ ap (λ (g : List ℕ). g ++ is.2.front) (same ∙ sym (append-nil given)),
+        some_is now (mid ++ is.2.front) is.2.written ∙ ap (λ (g : List ℕ). g ++ is.2.front) same,
         is.2.whole,
       ),
     )
 
--- the call without a verdict is whole
-stop_whole : (Source Read Write First Part Sunk : Type 0) (called : Bool) (stop : Stop) (status : Status) (text left : List ℕ) (before after : Files) (given mid now : List ℕ)
-    → (First → Sunk) → (Part → Sunk)
-    → Outcome Source Read Write First text before (stop_status stop) [] (stop_line stop) after called left → mid ≡ given → IsLast Part stop status mid now
+-- a call that stopped behind its verdicts is whole
+stop_whole : (Source Read Write First Part Sunk : Type 0) (called : Bool) (stop : Stop) (status : Status) (verdicts : List Verdict) (text left : List ℕ)
+    (before after : Files) (given mid now : List ℕ) → (First → Sunk) → (Part → Sunk)
+    → Outcome Source Read Write First text before (stop_status stop) verdicts (stop_line stop) after called left
+    → mid ≡ given ++ verdict_lines 1 verdicts → IsLast Part stop status mid now
     → IsPerformed Source Read Write Sunk called status text left before after given now
-stop_whole Source Read Write First Part Sunk called stop status text left before after given mid now first later is same last = record {
+stop_whole Source Read Write First Part Sunk called stop status verdicts text left before after given mid now first later is same last = record {
   planned = stop_status stop;
-  verdicts = [];
+  verdicts = verdicts;
   last = stop_line stop;
-  outcome = outcome_later Source Read Write First Sunk text before (stop_status stop) [] (stop_line stop) after called left first is;
-  told = last_told Part Sunk stop status given mid now later same last;
+  outcome = outcome_later Source Read Write First Sunk text before (stop_status stop) verdicts (stop_line stop) after called left first is;
+  told = last_told Part Sunk stop status verdicts given mid now later same last;
 }
 
 -- what is behind the front of a sink that failed
@@ -108,58 +102,45 @@ pub performed_stop : (Source Read Write First Part Sunk : Type 0) (called : Bool
     → RanSo Source Read Write First called (Err stop) text left before after given mid → IsLast Part stop status mid now
     → IsPerformed Source Read Write Sunk called status text left before after given now
 performed_stop Source Read Write First Part Sunk called Unprinted status text left before after given mid now first later is last =
-    let (verdict, outcome, front) = is.1 in
+    let (verdicts, verdict, outcome, front) = is.1 in
     let ended = unprinted_end Part status mid now last in
     record {
       planned = statuses.Fault;
-      verdicts = verdict ∷ [];
+      verdicts = verdicts ++ verdict ∷ [];
       last = [];
-      outcome = outcome_later Source Read Write First Sunk text before statuses.Fault (verdict ∷ []) [] after called left first outcome;
+      outcome = outcome_later Source Read Write First Sunk text before statuses.Fault (verdicts ++ verdict ∷ []) [] after called left first outcome;
       told = inr (
         first is.0,
         ended.0,
         (
-          [],
+          verdicts,
           verdict ∷ [],
           front.front,
           front.rest,
           refl,
           omega arith,
-          ended.1 ∙ some_is mid (given ++ front.front) front.written ∙ ap (λ (g : List ℕ). g ++ front.front) (sym (append-nil given)),
-          append-nil (verdict_lines 1 (verdict ∷ [])) ∙ one_line verdict ∙ front.whole,
+          ended.1 ∙ some_is mid (given ++ verdict_lines 1 verdicts ++ front.front) front.written,
+          append-nil (verdict_lines (1 + length verdicts) (verdict ∷ [])) ∙ verdict_lines-one (1 + length verdicts) verdict ∙ front.whole,
         ),
       );
     }
-performed_stop Source Read Write First Part Sunk called Misused status text left before after given mid now first later is last =
-    stop_whole Source Read Write First Part Sunk called Misused status text left before after given mid now first later is.0 is.1 last
-performed_stop Source Read Write First Part Sunk called TooLong status text left before after given mid now first later is last =
-    stop_whole Source Read Write First Part Sunk called TooLong status text left before after given mid now first later is.0 is.1 last
-performed_stop Source Read Write First Part Sunk called Unspelled status text left before after given mid now first later is last =
-    stop_whole Source Read Write First Part Sunk called Unspelled status text left before after given mid now first later is.0 is.1 last
-performed_stop Source Read Write First Part Sunk called Unread status text left before after given mid now first later is last =
-    stop_whole Source Read Write First Part Sunk called Unread status text left before after given mid now first later is.0 is.1 last
-performed_stop Source Read Write First Part Sunk called Unserved status text left before after given mid now first later is last =
-    stop_whole Source Read Write First Part Sunk called Unserved status text left before after given mid now first later is.0 is.1 last
-performed_stop Source Read Write First Part Sunk called Unreadable status text left before after given mid now first later is last =
-    stop_whole Source Read Write First Part Sunk called Unreadable status text left before after given mid now first later is.0 is.1 last
-performed_stop Source Read Write First Part Sunk called Unwritten status text left before after given mid now first later is last =
-    stop_whole Source Read Write First Part Sunk called Unwritten status text left before after given mid now first later is.0 is.1 last
-performed_stop Source Read Write First Part Sunk called Memory status text left before after given mid now first later is last =
-    stop_whole Source Read Write First Part Sunk called Memory status text left before after given mid now first later is.0 is.1 last
+performed_stop Source Read Write First Part Sunk called stop status text left before after given mid now first later is last =
+    stop_whole Source Read Write First Part Sunk called stop status is.0 text left before after given mid now first later is.1 is.2 last
 
--- where all three tell
-pub performed_told_ok : (Source Read Write Sunk : Type 0) (called : Bool) (verdict : Verdict) (text left : Option (List ℕ)) (before after : Option Files)
-    (given now : Option (List ℕ)) → WhereTold text left before after given now (RanSo Source Read Write Sunk called (Ok verdict))
-    → WhereTold text left before after given now (IsPerformed Source Read Write Sunk called (status_of verdict))
-performed_told_ok Source Read Write Sunk called verdict None left before after given now is = tt
-performed_told_ok Source Read Write Sunk called verdict (Some t) left None after given now is = tt
-performed_told_ok Source Read Write Sunk called verdict (Some t) left (Some f) after None now is = tt
-performed_told_ok Source Read Write Sunk called verdict (Some t) None (Some f) after (Some w) now is = absurd is
-performed_told_ok Source Read Write Sunk called verdict (Some t) (Some l) (Some f) None (Some w) now is = absurd is
-performed_told_ok Source Read Write Sunk called verdict (Some t) (Some l) (Some f) (Some a) (Some w) None is = absurd is
-performed_told_ok Source Read Write Sunk called verdict (Some t) (Some l) (Some f) (Some a) (Some w) (Some n) is =
-    performed_ok Source Read Write Sunk called verdict t l f a w n is
+-- a call that ran its commands is whole where all three tell
+pub performed_told_ok : (Source Read Write Sunk : Type 0) (called all_done : Bool) (text left : Option (List ℕ)) (before after : Option Files)
+    (given now : Option (List ℕ)) → WhereTold text left before after given now (RanSo Source Read Write Sunk called (Ok all_done))
+    → WhereTold text left before after given now (IsPerformed Source Read Write Sunk called (run_status all_done))
+performed_told_ok Source Read Write Sunk called all_done None left before after given now is = tt
+performed_told_ok Source Read Write Sunk called all_done (Some t) left None after given now is = tt
+performed_told_ok Source Read Write Sunk called all_done (Some t) left (Some f) after None now is = tt
+performed_told_ok Source Read Write Sunk called all_done (Some t) None (Some f) after (Some w) now is = absurd is
+performed_told_ok Source Read Write Sunk called all_done (Some t) (Some l) (Some f) None (Some w) now is = absurd is
+performed_told_ok Source Read Write Sunk called all_done (Some t) (Some l) (Some f) (Some a) (Some w) None is = absurd is
+performed_told_ok Source Read Write Sunk called all_done (Some t) (Some l) (Some f) (Some a) (Some w) (Some n) is =
+    performed_ok Source Read Write Sunk called all_done t l f a w n is
 
+-- a call that stopped is whole where all three tell
 pub performed_told_stop : (Source Read Write First Part Sunk : Type 0) (called : Bool) (stop : Stop) (status : Status) (text left : Option (List ℕ))
     (before after : Option Files) (given mid now : Option (List ℕ)) → (First → Sunk) → (Part → Sunk)
     → WhereTold text left before after given mid (RanSo Source Read Write First called (Err stop))
@@ -175,12 +156,13 @@ performed_told_stop Source Read Write First Part Sunk called stop status (Some t
 performed_told_stop Source Read Write First Part Sunk called stop status (Some t) (Some l) (Some f) (Some a) (Some w) (Some m) (Some n) first later is last =
     performed_stop Source Read Write First Part Sunk called stop status t l f a w m n first later is last
 
--- a line that was written whole, or in front
+-- the line was written whole
 pub last_ok : (Sunk : Type 0) (stop : Stop) (had now : Option (List ℕ)) → now ≡ option_map (λ w. w ++ stop_line stop) had
     → IfTold had (λ given. IsSomeAnd now (IsLast Sunk stop (stop_status stop) given))
 last_ok Sunk stop None now is = tt
 last_ok Sunk stop (Some w) now is = subst (λ n. IsSomeAnd n (IsLast Sunk stop (stop_status stop) w)) (sym is) (inl (refl, refl))
 
+-- a front of the line was written
 pub last_err : (Sunk : Type 0) (stop : Stop) (had now : Option (List ℕ)) → Sunk → IfTold had (λ w. HasFront w (stop_line stop) now)
     → IfTold had (λ given. IsSomeAnd now (IsLast Sunk stop statuses.Fault given))
 last_err Sunk stop None now sunk is = tt
@@ -193,7 +175,7 @@ pub misused_told : (Sunk : Type 0) (status : Status) (given now : Option (List �
     → IfTold given (λ w. IsSomeAnd now (λ n. MisusedCall Sunk w n status))
 misused_told Sunk status None now is = tt
 misused_told Sunk status (Some w) None is = absurd is
-misused_told Sunk status (Some w) (Some n) is = last_told Sunk Sunk Misused status w w n (λ x. x) refl is
+misused_told Sunk status (Some w) (Some n) is = last_told Sunk Sunk Misused status [] w w n (λ x. x) (sym (append-nil w)) is
 
 -- a fact holds where there is no value
 pub if_none : {A : Type 0} (option : Option A) (P : Type 0) → P → IfNone option P

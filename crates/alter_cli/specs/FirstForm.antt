@@ -1,16 +1,14 @@
 -- The database files that are served so far.
-use Rattle.std.specs.Prelude.{◌≡◌, ◌≢◌, ◌≤◌, ◌<◌, ℕ, ◌-◌, ◌*◌, ◌^◌, true, List, [], ◌∷◌, length, map, take, codes, AllPairs, IsSomeAnd, IsTrue}
+use Rattle.std.specs.Prelude.{◌≡◌, ◌≢◌, ◌≤◌, ◌<◌, ℕ, ◌-◌, ◌*◌, List, [], ◌∷◌, length, map, take, codes, AllPairs, IsSomeAnd, IsTrue}
 use Rattle.std.specs.List.{AllByRecursion, slice_get}
 use Rattle.alter_disk.specs.Files.{Files}
-use Rattle.page_cells.specs.declared.cell.Cell.{Cell}
-use Rattle.page_cells.specs.Cells.{HasCells}
 use Rattle.sql_token.specs.Names.{folded}
-use Rattle.alter_cli.specs.declared.schema.SchemaRow.{SchemaRow}
+use Rattle.schema_rows.specs.declared.schema.SchemaRow.{SchemaRow}
 use Rattle.alter_cli.specs.declared.form.Table.{Table}
 use Rattle.alter_cli.specs.Image.{Page, Image, pages}
 use Rattle.alter_cli.specs.Header.{IsHeader, is_page_size, page_size, usable_size, page_count}
-use Rattle.alter_cli.specs.FirstPage.{HoldRows, IsEmptyTable, leaf_of}
-use Rattle.alter_cli.specs.TableText.{SpellsTable}
+use Rattle.alter_cli.specs.FirstPage.{HoldsRows, IsEmptyTable}
+use Rattle.plain_sql.specs.TableText.{SpellsTable}
 
 -- page 1
 abbrev pub first_page : Image → Page
@@ -27,17 +25,18 @@ pub record HasRoot (image : Image) (row : SchemaRow) : Type 0 where
   pub there : row.root ≤ length image
   pub empty : IsSomeAnd (slice_get image (row.root - 1)) (IsEmptyTable (usable_size (header_of image)))
 
+-- the rows may stand in this order in one schema
+pub record AreApart (a b : SchemaRow) : Type 0 where
+  pub ascending : a.rowid < b.rowid
+  pub named : folded a.name ≢ folded b.name
+  pub rooted : a.root ≢ b.root
+
 -- the image is that of a sound file that is served, with a schema of these rows, in order
 pub record IsStored (image : Image) (rows : List SchemaRow) : Type 0 where
   pub header : IsHeader (header_of image) (length image * page_size (header_of image))
-  pub cells : List Cell
-  pub leaf : HasCells (first_page image) true (usable_size (header_of image)) (leaf_of cells)
-  pub held : HoldRows (first_page image) cells rows
-  pub numbered : AllByRecursion (λ row. (1 ≤ row.rowid) × (row.rowid < 2 ^ 32)) rows
-  pub ascending : AllPairs (λ a b. a.rowid < b.rowid) rows
-  pub named_apart : AllPairs (λ a b. folded a.name ≢ folded b.name) rows
+  pub held : HoldsRows (first_page image) (usable_size (header_of image)) rows
+  pub apart : AllPairs AreApart rows
   pub rooted : AllByRecursion (HasRoot image) rows
-  pub rooted_apart : AllPairs (λ a b. a.root ≢ b.root) rows
 
 -- the name of a text is the one of both fields of its row, and none that begins as those of SQLite's own tables
 pub record HasItsName (name : List ℕ) (row : SchemaRow) : Type 0 where
@@ -55,11 +54,10 @@ pub record IsSpelled (table : Table) : Type 0 where
 abbrev pub rows_of : List Table → List SchemaRow
 rows_of tables = map (λ table. table.row) tables
 
--- The image holds these tables and nothing else. So far it is exactly one.
+-- the image holds these tables and nothing else
 pub record IsFirstForm (image : Image) (tables : List Table) : Type 0 where
   pub stored : IsStored image (rows_of tables)
   pub spelled : AllByRecursion IsSpelled tables
-  pub one : length tables ≡ 1
 
 -- the two files are the whole pages of this image, and no journal
 pub record AreFiles (files : Files) (image : Image) : Type 0 where

@@ -4,14 +4,7 @@ pub mod Given
 pub mod Image
 pub mod Header
 pub mod Sizes
-pub mod Record
-pub mod RowReading
-pub mod RowView
-pub mod Schema
 pub mod FirstPage
-pub mod Words
-pub mod TableText
-pub mod Script
 pub mod FirstForm
 pub mod Served
 pub mod Step

@@ -2,7 +2,7 @@
 use Rattle.std.specs.Prelude.{◌≡◌, ◌≤◌, ◌<◌, ℕ, ◌+◌, ◌⊎◌, Bool, true, false, List, [], ◌∷◌, ◌++◌, length, take, drop, slice_get, Option, Some, None}
 use Rattle.std.specs.List.{list_all}
 use Rattle.alter_disk.specs.Files.{Files}
-use Rattle.alter_cli.specs.declared.script.Command.{Command}
+use Rattle.plain_sql.specs.declared.script.Command.{Command}
 use Rattle.alter_cli.specs.declared.form.Table.{Table}
 use Rattle.alter_cli.specs.declared.verdict.Verdict.{Verdict}
 use Rattle.alter_cli.specs.declared.verdict.Verdict.TheVariants as verdicts
@@ -10,7 +10,7 @@ use Rattle.alter_cli.specs.declared.status.Status.{Status}
 use Rattle.alter_cli.specs.declared.status.Status.TheVariants.{Done, Refused, Script, File, Fault, Memory, Usage}
 use Rattle.alter_cli.specs.Image.{Image}
 use Rattle.alter_cli.specs.Header.{page_size}
-use Rattle.alter_cli.specs.Script.{IsScript}
+use Rattle.plain_sql.specs.Script.{IsScript}
 use Rattle.alter_cli.specs.FirstForm.{AreFiles, IsFirstForm}
 use Rattle.alter_cli.specs.Step.{Step}
 use Rattle.alter_cli.specs.Run.{Run}

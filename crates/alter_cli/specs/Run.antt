@@ -1,6 +1,6 @@
 -- Commands one after the other.
 use Rattle.std.specs.Prelude.{◌≡◌, List, [], ◌∷◌}
-use Rattle.alter_cli.specs.declared.script.Command.{Command}
+use Rattle.plain_sql.specs.declared.script.Command.{Command}
 use Rattle.alter_cli.specs.declared.verdict.Verdict.{Verdict}
 use Rattle.alter_cli.specs.Image.{Image}
 use Rattle.alter_cli.specs.Step.{Step}

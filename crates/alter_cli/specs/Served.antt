@@ -1,16 +1,17 @@
--- A file that is served, by the bytes of its files; `FirstForm` says the same of its image.
-use Rattle.std.specs.Prelude.{◌≡◌, ◌≤◌, ℕ, ◌+◌, List, [], length, take, Option, Some, None}
+-- A file that is served, as far as it is read off its disk.
+use Rattle.std.specs.Prelude.{◌≡◌, ◌≤◌, ℕ, ◌+◌, List, [], length, take, Option, Some, None, AllPairs}
+use Rattle.std.specs.List.{AllByRecursion}
 use Rattle.alter_disk.specs.Files.{Files}
+use Rattle.schema_rows.specs.declared.schema.SchemaRow.{SchemaRow}
 use Rattle.alter_cli.specs.declared.header.Sizes.{Sizes}
-use Rattle.alter_cli.specs.declared.schema.SchemaRow.{SchemaRow}
 use Rattle.alter_cli.specs.declared.form.Table.{Table}
 use Rattle.alter_cli.specs.declared.form.Form.{Form}
 use Rattle.alter_cli.specs.declared.file.First.{First}
-use Rattle.alter_cli.specs.Image.{page_bytes}
+use Rattle.alter_cli.specs.Image.{Image, page_bytes}
 use Rattle.alter_cli.specs.Header.{IsHeader, page_size, usable_size}
 use Rattle.alter_cli.specs.Sizes.{HasSizes, AreSound}
-use Rattle.alter_cli.specs.FirstPage.{HoldsOne, IsEmptyTable}
-use Rattle.alter_cli.specs.FirstForm.{IsSpelled}
+use Rattle.alter_cli.specs.FirstPage.{HoldsRows, IsEmptyTable}
+use Rattle.alter_cli.specs.FirstForm.{AreApart, AreFiles, IsFirstForm, first_page, header_of, rows_of}
 
 -- no journal, and a database that begins with this header, of these sizes
 pub record IsOpening (files : Files) (sizes : Sizes) (first : List ℕ) : Type 0 where
@@ -19,28 +20,32 @@ pub record IsOpening (files : Files) (sizes : Sizes) (first : List ℕ) : Type 0
   pub header : IsHeader (take 100 files.db) (length files.db)
   pub sized : HasSizes (take 100 files.db) (length files.db) sizes
 
--- no journal, a header that is served, and this row alone on page 1
-pub record HasFront (files : Files) (row : SchemaRow) : Type 0 where
+-- no journal, a header that is served, and these rows on page 1
+pub record HasFront (files : Files) (rows : List SchemaRow) : Type 0 where
   pub journal : files.journal ≡ []
   pub header : IsHeader (take 100 files.db) (length files.db)
-  pub one : HoldsOne (take (page_size (take 100 files.db)) files.db) (usable_size (take 100 files.db)) row
+  pub held : HoldsRows (take (page_size (take 100 files.db)) files.db) (usable_size (take 100 files.db)) rows
 
--- the front of the files was read as these sizes, this page 1 and this row
-pub record IsFront (files : Files) (sizes : Sizes) (page : List ℕ) (row : SchemaRow) : Type 0 where
+-- the front of the files was read as these sizes, this page 1 and these rows
+pub record IsFront (files : Files) (sizes : Sizes) (page : List ℕ) (rows : List SchemaRow) : Type 0 where
   pub sized : HasSizes (take 100 files.db) (length files.db) sizes
   pub bytes : page ≡ take (page_size (take 100 files.db)) files.db
-  pub front : HasFront files row
+  pub front : HasFront files rows
 
--- the row of what was read is this one
-abbrev pub IsFrontReadAs : SchemaRow → Option First → Type 0
-IsFrontReadAs row (Some first) = first.row ≡ row
-IsFrontReadAs row None = ⊥
+-- the rows of what was read are these
+abbrev pub IsFrontReadAs : List SchemaRow → Option First → Type 0
+IsFrontReadAs rows (Some first) = first.rows.items ≡ rows
+IsFrontReadAs rows None = ⊥
+
+-- the row is no longer than its page
+abbrev pub IsShortRow : List ℕ → SchemaRow → Type 0
+IsShortRow page row = length row.name + length row.table + length row.text ≤ length page
 
 -- what holds of every front that is read
-pub record IsFrontReady (sizes : Sizes) (page : List ℕ) (row : SchemaRow) : Type 0 where
+pub record IsFrontReady (sizes : Sizes) (page : List ℕ) (rows : List SchemaRow) : Type 0 where
   pub sound : AreSound sizes
   pub extent : length page ≡ sizes.page
-  pub lengths : length row.name + length row.table + length row.text ≤ length page
+  pub lengths : AllByRecursion (IsShortRow page) rows
 
 -- the root is a page of the file behind the first, and an empty table
 pub record HasEmptyRoot (files : Files) (sizes : Sizes) (root : ℕ) : Type 0 where
@@ -48,29 +53,34 @@ pub record HasEmptyRoot (files : Files) (sizes : Sizes) (root : ℕ) : Type 0 wh
   pub there : root ≤ sizes.count
   pub empty : IsEmptyTable sizes.usable (page_bytes sizes.page root files.db)
 
--- the files are those of one table, and nothing else
-pub record IsServedFile (files : Files) (table : Table) : Type 0 where
-  pub front : HasFront files table.row
-  pub sizes : Sizes
-  pub sized : HasSizes (take 100 files.db) (length files.db) sizes
-  pub root : HasEmptyRoot files sizes table.row.root
-  pub spelled : IsSpelled table
+-- the form is that of the image
+pub record IsFormOf (image : Image) (form : Form) : Type 0 where
+  pub first : IsFirstForm image form.tables.items
+  pub size : form.sizes.page ≡ page_size (header_of image)
+  pub usable : form.sizes.usable ≡ usable_size (header_of image)
+  pub count : form.sizes.count ≡ length image
+  pub page : form.page ≡ first_page image
 
--- the form is that of the files
-pub record IsFormOf (files : Files) (form : Form) : Type 0 where
-  pub sizes : HasSizes (take 100 files.db) (length files.db) form.sizes
-  pub page : form.page ≡ take (page_size (take 100 files.db)) files.db
-  pub served : IsServedFile files form.table
+-- the files have the image that the form is of
+pub record AreOfForm (files : Files) (form : Form) : Type 0 where
+  pub image : Image
+  pub are : AreFiles files image
+  pub of : IsFormOf image form
+
+-- what holds of every table that is read, whatever the disk tells
+pub record IsReadyTable (table : Table) : Type 0 where
+  pub inside : table.columns_end ≤ length table.row.text
+  pub root : table.row.root ≤ 65536
+  pub name : length table.row.name ≤ 65536
+  pub owner : length table.row.table ≤ 65536
+  pub text : length table.row.text ≤ 65536
 
 -- what holds of every form that is read, whatever the disk tells
 pub record IsReady (form : Form) : Type 0 where
   pub sound : AreSound form.sizes
   pub page : length form.page ≡ form.sizes.page
-  pub inside : form.table.columns_end ≤ length form.table.row.text
-  pub root : form.table.row.root ≤ 65536
-  pub name : length form.table.row.name ≤ 65536
-  pub table : length form.table.row.table ≤ 65536
-  pub text : length form.table.row.text ≤ 65536
+  pub tables : AllByRecursion IsReadyTable form.tables.items
+  pub apart : AllPairs AreApart (rows_of form.tables.items)
 
 -- calls that only read changed no byte and did not fail to write
 pub record OnlyReads {D : Type 0} (files_of : D → Option Files) (reads writes : D → ℕ) (old new : D) : Type 0 where

@@ -5,17 +5,17 @@ use Rattle.std.specs.Cmp.Lexicographic.{pointwise}
 use Rattle.page_cells.specs.Layout.{pointer_place}
 use Rattle.page_cells.specs.Write.{rooms, written_page}
 use Rattle.sql_token.specs.Names.{folded}
-use Rattle.alter_cli.specs.declared.schema.SchemaRow.{SchemaRow}
+use Rattle.schema_rows.specs.declared.schema.SchemaRow.{SchemaRow}
 use Rattle.alter_cli.specs.declared.form.Table.{Table}
-use Rattle.alter_cli.specs.declared.script.Command.{Command}
+use Rattle.plain_sql.specs.declared.script.Command.{Command}
 use Rattle.alter_cli.specs.declared.verdict.Refusal.{Refusal}
-use Rattle.alter_cli.specs.declared.verdict.Refusal.TheVariants.{NoSuchTable, Unbuilt}
+use Rattle.alter_cli.specs.declared.verdict.Refusal.TheVariants.{NoSuchTable, ColumnTaken, Unbuilt}
 use Rattle.alter_cli.specs.declared.verdict.Verdict.{Verdict}
 use Rattle.alter_cli.specs.declared.verdict.Verdict.TheVariants.{Done, Refused}
 use Rattle.alter_cli.specs.Image.{Image}
 use Rattle.alter_cli.specs.Header.{usable_size, committed}
-use Rattle.alter_cli.specs.Schema.{row_record, row_cell}
-use Rattle.alter_cli.specs.FirstForm.{first_page, header_of, rows_of, IsStored, IsFirstForm}
+use Rattle.schema_rows.specs.Schema.{row_record, row_cell}
+use Rattle.alter_cli.specs.FirstForm.{first_page, header_of, rows_of, IsFirstForm}
 
 -- the names are equal, letters of ASCII folded
 abbrev pub same_name : List ℕ → List ℕ → Bool
@@ -45,16 +45,21 @@ added command table = record {
 abbrev pub after : Command → List Table → List Table
 after command tables = map (λ table. if is_named command table then added command table else table) tables
 
+-- each row's payload is all local
+abbrev pub are_local : ℕ → List SchemaRow → Bool
+are_local usable rows = list_all (λ row. nat_le (length (row_record row)) (usable - 35)) rows
+
 -- each row's payload is all local, and page 1 has room for the cells
 abbrev pub is_built : ℕ → List SchemaRow → Bool
-is_built usable rows = list_all (λ row. nat_le (length (row_record row)) (usable - 35)) rows && nat_le (pointer_place true (length rows) + rooms (map row_cell rows)) usable
+is_built usable rows = are_local usable rows && nat_le (pointer_place true (length rows) + rooms (map row_cell rows)) usable
 
--- the first restriction that the command breaks, if the table is there
+-- the first restriction that the command breaks, by the table that it is about
 abbrev pub refusal_at : ℕ → List Table → Command → Option Table → Option Refusal
 refusal_at usable tables command None = Some NoSuchTable
 refusal_at usable tables command (Some table) =
-    if has_column command table || nat_le 2000 (length table.columns) || not (is_built usable (rows_of (after command tables)))
-    then Some Unbuilt else None
+    if has_column command table then Some ColumnTaken
+    else if nat_le 2000 (length table.columns) || not (is_built usable (rows_of (after command tables))) then Some Unbuilt
+    else None
 
 -- the first restriction that the command breaks
 abbrev pub refusal_of : ℕ → List Table → Command → Option Refusal
@@ -67,13 +72,14 @@ verdict_from (Some refusal) = Refused refusal
 
 -- The new image of a command that is done. Every page but the first is the same. The first has the header of a
 -- committed change and the cells of the rows, as SQLite writes them, and its bytes behind the usable ones are the same.
+-- Read anew, the image holds the tables as the command leaves them.
 pub record IsAdded (image : Image) (tables : List Table) (command : Command) (new : Image) : Type 0 where
   pub others : drop 1 new ≡ drop 1 image
   pub extent : length new ≡ length image
   pub header : header_of new ≡ committed (length image) 3 (header_of image)
   pub page : first_page new ≡ written_page (committed (length image) 3 (header_of image) ++ drop 100 (first_page image))
       true (usable_size (header_of image)) (map row_cell (rows_of (after command tables)))
-  pub stored : IsStored new (rows_of (after command tables))
+  pub form : IsFirstForm new (after command tables)
 
 -- what a command with this verdict leaves
 abbrev pub Leaves : Image → List Table → Command → Verdict → Image → Type 0

@@ -1,20 +1,22 @@
 //! Reading a file that is served off its disk.
-ghost use Rattle.std.specs.Prelude.{◌≡◌, ◌≤◌, ◌<◌, ◌+◌, ◌*◌, ◌^◌, ◌↔◌, [], length, take, drop, IsTrue, IfOk, OnOk, OnErr, IsErrOf, IfSome, IfNone};
+ghost use Rattle.std.specs.Prelude.{◌≡◌, ◌≤◌, ◌<◌, ◌+◌, ◌*◌, ◌^◌, ◌↔◌, [], List, length, take, drop, IsTrue, IfOk, OnOk, OnErr, IsErrOf, IfSome, IfNone};
+ghost use Rattle.std.specs.List.{AllByRecursion};
 ghost use Rattle.alter_disk.specs.Changes.{IfTold};
 ghost use Rattle.alter_disk.specs.Faults.{Rose};
-ghost use Rattle.alter_cli.specs.Image.{page_bytes};
+ghost use Rattle.alter_cli.specs.Image.{Image, page_bytes};
 ghost use Rattle.alter_cli.specs.Header.{IsHeader};
 ghost use Rattle.alter_cli.specs.Sizes.{AreSound};
-ghost use Rattle.alter_cli.specs.Served.{IsOpening, IsFront, IsFrontReady, IsFrontReadAs, HasFront, HasEmptyRoot, IsServedFile, IsFormOf, IsReady, OnlyReads};
-ghost use Rattle.alter_cli.specs.declared.form.Table.{Table};
-ghost use Rattle.alter_cli.specs.declared.schema.SchemaRow.{SchemaRow};
+ghost use Rattle.alter_cli.specs.Served.{IsOpening, IsFront, IsFrontReady, IsFrontReadAs, HasFront, HasEmptyRoot, AreOfForm, IsReady, OnlyReads};
+ghost use Rattle.alter_cli.specs.Outcome.{Opens};
+ghost use Rattle.schema_rows.specs.declared.schema.SchemaRow.{SchemaRow};
 
-use crate::form::{Form, Table, table_of};
+use crate::form::{Form, tables_of};
 use crate::header::{HEADER_LEN, Sizes, read_header};
-use crate::pages::{is_empty_table, read_first_page};
-use crate::schema::SchemaRow;
+use crate::pages::{is_empty_table, read_rows};
+use crate::rows::are_apart;
 use alter_bytes::Bytes;
 use alter_disk::{Disk, Failed, Which};
+use schema_rows::SchemaRow;
 use std::alloc::{AllocError, Global};
 
 /// Why a file could not be read.
@@ -154,19 +156,19 @@ fn read_page<D: Disk>(
     )
 }
 
-/// Page 1, its sizes and its one row.
+/// Page 1, its sizes and its rows.
 #[derive(Drop)]
 struct First {
     sizes: Sizes,
     page: Vec<u8>,
-    row: SchemaRow,
+    rows: Vec<SchemaRow>,
 }
 
 /// Reads the header and page 1, if they are those of a file that is served.
 fn read_front<D: Disk>(alloc: Global, disk: &mut D) -> Result<Option<First>, ReadFault>
-    ensures ready { IfOk result (λ read. IfSome read (λ first. IsFrontReady first.sizes first.page.items first.row)) }
-    ensures found { IfOk result (λ read. IfSome read (λ first. IfTold (D.files disk.old) (λ files. IsFront files first.sizes first.page.items first.row))) }
-    ensures only { IfOk result (λ read. IfTold (D.files disk.old) (λ files. (row : SchemaRow) → row.root < 2 ^ 31 → HasFront files row → IsFrontReadAs row read)) }
+    ensures ready { IfOk result (λ read. IfSome read (λ first. IsFrontReady first.sizes first.page.items first.rows.items)) }
+    ensures found { IfOk result (λ read. IfSome read (λ first. IfTold (D.files disk.old) (λ files. IsFront files first.sizes first.page.items first.rows.items))) }
+    ensures only { IfOk result (λ read. IfTold (D.files disk.old) (λ files. (rows : List SchemaRow) → AllByRecursion (λ row. row.root < 2 ^ 31) rows → HasFront files rows → IsFrontReadAs rows read)) }
     ensures failed { IsErrOf result ReadFault.Failed → Rose (D.read_faults disk.old) (D.read_faults disk.new) }
     ensures reads { OnlyReads D.files D.read_faults D.write_faults disk.old disk.new }
 {
@@ -174,11 +176,11 @@ fn read_front<D: Disk>(alloc: Global, disk: &mut D) -> Result<Option<First>, Rea
         return Ok(None);
     };
     let page = read_first(alloc, disk, &opening)?;
-    match read_first_page(alloc, page.as_slice(), opening.sizes.usable as usize)? {
-        Some(row) => Ok(Some(First {
+    match read_rows(alloc, page.as_slice(), opening.sizes.usable as usize)? {
+        Some(rows) => Ok(Some(First {
             sizes: opening.sizes,
             page,
-            row,
+            rows,
         })),
         None => Ok(None),
     }
@@ -204,25 +206,47 @@ fn has_root<D: Disk>(
     Ok(is_empty_table(alloc, page.as_slice(), sizes.usable as usize)?)
 }
 
-/// Reads the file, if it is one that is served.
-pub fn read_form<D: Disk>(alloc: Global, disk: &mut D) -> Result<Option<Form>, ReadFault>
-    ensures ready { IfOk result (λ read. IfSome read IsReady) }
-    ensures found { IfOk result (λ read. IfSome read (λ form. IfTold (D.files disk.old) (λ files. IsFormOf files form))) }
-    ensures unserved { IfOk result (λ read. IfNone read (IfTold (D.files disk.old) (λ files. (table : Table) → IsServedFile files table → ⊥))) }
+/// Whether each row's root is a page of the file behind the first, and an empty table.
+fn have_roots<D: Disk>(
+    alloc: Global,
+    disk: &mut D,
+    sizes: &Sizes,
+    rows: &[SchemaRow],
+) -> Result<bool, ReadFault>
+    requires { AreSound sizes.now }
+    ensures there { IfOk result (λ have. IsTrue have → AllByRecursion (λ row. (2 ≤ row.root) × (row.root ≤ sizes.now.count)) rows.now) }
+    ensures told { IfOk result (λ have. IfTold (D.files disk.old) (λ files. sizes.now.count * sizes.now.page ≤ length files.db
+        → IsTrue have ↔ AllByRecursion (λ row. HasEmptyRoot files sizes.now row.root) rows.now)) }
     ensures failed { IsErrOf result ReadFault.Failed → Rose (D.read_faults disk.old) (D.read_faults disk.new) }
     ensures reads { OnlyReads D.files D.read_faults D.write_faults disk.old disk.new }
 {
-    let Some(First { sizes, page, row }) = read_front(alloc, disk)? else {
+    for row in rows {
+        if !has_root(alloc, disk, sizes, row.root)? {
+            return Ok(false);
+        }
+    }
+    Ok(true)
+}
+
+/// Reads the file, if it is one that is served.
+pub fn read_form<D: Disk>(alloc: Global, disk: &mut D) -> Result<Option<Form>, ReadFault>
+    ensures ready { IfOk result (λ read. IfSome read IsReady) }
+    ensures found { IfOk result (λ read. IfSome read (λ form. IfTold (D.files disk.old) (λ files. AreOfForm files form))) }
+    ensures unserved { IfOk result (λ read. IfNone read (IfTold (D.files disk.old) (λ files. (image : Image) → Opens files image → ⊥))) }
+    ensures failed { IsErrOf result ReadFault.Failed → Rose (D.read_faults disk.old) (D.read_faults disk.new) }
+    ensures reads { OnlyReads D.files D.read_faults D.write_faults disk.old disk.new }
+{
+    let Some(First { sizes, page, rows }) = read_front(alloc, disk)? else {
         return Ok(None);
     };
-    if !has_root(alloc, disk, &sizes, row.root)? {
+    if !are_apart(rows.as_slice()) || !have_roots(alloc, disk, &sizes, rows.as_slice())? {
         return Ok(None);
     }
-    match table_of(alloc, row)? {
-        Some(table) => Ok(Some(Form {
+    match tables_of(alloc, rows)? {
+        Some(tables) => Ok(Some(Form {
             sizes,
             page: Bytes::new(page),
-            table,
+            tables,
         })),
         None => Ok(None),
     }

@@ -1,15 +1,15 @@
 //! A file that is served, as far as it is read.
-ghost use Rattle.std.specs.Prelude.{◌≡◌, ◌≢◌, ◌≤◌, ◌↔◌, codes, length, take, IsTrue, IfOk, IfSome};
+ghost use Rattle.std.specs.Prelude.{◌≡◌, ◌≢◌, List, ◌≤◌, ◌↔◌, codes, length, take, IsTrue, IfOk, IfSome};
+ghost use Rattle.std.specs.List.{AllByRecursion};
 ghost use Rattle.sql_token.specs.Names.{folded};
-ghost use Rattle.alter_cli.specs.Words.{IsRead};
-ghost use Rattle.alter_cli.specs.FirstForm.{IsSpelled, HasItsName};
+ghost use Rattle.plain_sql.specs.Words.{IsRead};
+ghost use Rattle.alter_cli.specs.FirstForm.{IsSpelled, HasItsName, rows_of};
 ghost use Rattle.alter_cli.specs.declared.form.Table.{Table};
 
 use crate::header::Sizes;
-use crate::names::Names;
-use crate::schema::SchemaRow;
-use crate::table::{TableText, read_table};
 use alter_bytes::Bytes;
+use plain_sql::{Names, TableText, read_table};
+use schema_rows::SchemaRow;
 use sql_token::same_name;
 use std::alloc::{AllocError, Global};
 
@@ -22,12 +22,12 @@ pub struct Table {
     pub columns_end: usize,
 }
 
-/// A file that is served: its page 1 and its one table.
+/// A file that is served: its page 1 and its tables, in the order of their rows.
 #[derive(Drop)]
 pub struct Form {
     pub sizes: Sizes,
     pub page: Bytes,
-    pub table: Table,
+    pub tables: Vec<Table>,
 }
 
 /// Whether the name begins as those of SQLite's own tables do.
@@ -47,7 +47,7 @@ fn has_its_name(name: &[u8], row: &SchemaRow) -> bool
 }
 
 /// The table of a row, if its text is one that is served.
-pub fn table_of(alloc: Global, row: SchemaRow) -> Result<Option<Table>, AllocError>
+fn table_of(alloc: Global, row: SchemaRow) -> Result<Option<Table>, AllocError>
     ensures found { IfOk result (λ read. IfSome read (λ table. (table.row ≡ row) × IsSpelled table)) }
     ensures inside { IfOk result (λ read. IfSome read (λ table. table.columns_end ≤ length table.row.text)) }
     ensures only { (table : Table) → table.row ≡ row → IsSpelled table → IsRead (λ read. read ≡ table) result }
@@ -70,4 +70,20 @@ pub fn table_of(alloc: Global, row: SchemaRow) -> Result<Option<Table>, AllocErr
         columns,
         columns_end,
     }))
+}
+
+/// The tables of the rows, if each text is one that is served.
+pub fn tables_of(alloc: Global, rows: Vec<SchemaRow>) -> Result<Option<Vec<Table>>, AllocError>
+    ensures found { IfOk result (λ read. IfSome read (λ tables. (rows_of tables.items ≡ rows.items) × AllByRecursion IsSpelled tables.items)) }
+    ensures inside { IfOk result (λ read. IfSome read (λ tables. AllByRecursion (λ table. table.columns_end ≤ length table.row.text) tables.items)) }
+    ensures only { (list : List Table) → rows_of list ≡ rows.items → AllByRecursion IsSpelled list → IsRead (λ read. read.items ≡ list) result }
+{
+    let mut tables = Vec::new(alloc);
+    for row in rows {
+        match table_of(alloc, row)? {
+            Some(table) => tables.push(table)?,
+            None => return Ok(None),
+        }
+    }
+    Ok(Some(tables))
 }

@@ -12,6 +12,7 @@ impl Refusal {
     {
         match self {
             Refusal::NoSuchTable => "no-such-table",
+            Refusal::ColumnTaken => "column-taken",
             Refusal::Unbuilt => "unbuilt",
         }
     }

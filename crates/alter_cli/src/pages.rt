@@ -1,14 +1,18 @@
-//! The pages of a file that is served: page 1 with one row, and empty tables.
-ghost use Rattle.std.specs.Prelude.{◌≡◌, ◌≤◌, ◌<◌, ◌+◌, ◌-◌, ◌^◌, ◌↔◌, ℕ, [], ◌∷◌, pos, true, length, take, drop, Some, None, IsTrue, IfOk, IfSome, IfNone};
+//! The pages of a file that is served: page 1 with the schema's rows, and empty tables.
+ghost use Rattle.std.specs.Prelude.{◌≡◌, ◌≤◌, ◌<◌, ◌+◌, ◌-◌, ◌^◌, ◌↔◌, ℕ, List, [], ◌∷◌, pos, true, length, take, drop, Some, None, IsTrue, IfOk, IfSome, IfNone};
+ghost use Rattle.std.specs.List.{AllByRecursion};
 ghost use Rattle.page_cells.specs.Cells.{HasCells};
 ghost use Rattle.page_cells.specs.Layout.{IsUsable};
 ghost use Rattle.page_cells.specs.declared.cell.Cell.{Cell};
-ghost use Rattle.alter_cli.specs.FirstPage.{HoldsOne, IsEmptyTable, IsLocal, IsCellReadAs, leaf_of};
-ghost use Rattle.alter_cli.specs.Schema.{IsRowReadAs};
-ghost use Rattle.alter_cli.specs.declared.schema.SchemaRow.{SchemaRow};
+ghost use Rattle.schema_rows.specs.Record.{IsRecord};
+ghost use Rattle.schema_rows.specs.Schema.{row_values};
+ghost use Rattle.schema_rows.specs.declared.schema.SchemaRow.{SchemaRow};
+ghost use Rattle.plain_sql.specs.Words.{IsRead};
+ghost use Rattle.alter_cli.specs.FirstPage.{HoldsRow, HoldRows, HoldsRows, IsEmptyTable, IsLocal, IsOnPage, leaf_of};
+ghost use Rattle.alter_cli.specs.Served.{IsShortRow};
 
-use crate::schema::{SchemaRow, read_schema_row};
 use page_cells::{Cell, CellError, cells};
+use schema_rows::{SchemaRow, read_schema_row};
 use std::alloc::{AllocError, Global};
 
 /// The rowid of a cell, if schema rows may have it: from 1 to 2^32 - 1.
@@ -22,28 +26,24 @@ fn schema_rowid(rowid: Option<i64>) -> Option<u32>
     }
 }
 
-/// The one cell of page 1.
-fn only_cell(alloc: Global, page: &[u8], usable: usize) -> Result<Option<Cell>, AllocError>
+/// The cells of page 1, if it is a leaf page of a table tree.
+fn first_cells(alloc: Global, page: &[u8], usable: usize) -> Result<Option<Vec<Cell>>, AllocError>
     requires { IsUsable usable (length page.now) }
-    ensures found { IfOk result (λ read. IfSome read (λ c. HasCells page.now true usable (leaf_of (c ∷ [])))) }
-    ensures only { (c : Cell) → HasCells page.now true usable (leaf_of (c ∷ [])) → IsCellReadAs c result }
+    ensures found { IfOk result (λ read. IfSome read (λ c. HasCells page.now true usable (leaf_of c.items))) }
+    ensures within { IfOk result (λ read. IfSome read (λ c. AllByRecursion (IsOnPage page.now) c.items)) }
+    ensures only { (list : List Cell) → HasCells page.now true usable (leaf_of list) → IsRead (λ read. read.items ≡ list) result }
 {
-    let found = match cells(alloc, page, true, usable) {
-        Ok(found) => found,
-        Err(CellError::Memory(fault)) => return Err(fault),
-        Err(CellError::Kind) => return Ok(None),
-        Err(CellError::Bounds(_)) => return Ok(None),
-    };
-    match found.cells.as_slice() {
-        [cell] => Ok(Some(*cell)),
-        _ => Ok(None),
+    match cells(alloc, page, true, usable) {
+        Ok(found) => Ok(Some(found.cells.into_vec())),
+        Err(CellError::Memory(fault)) => Err(fault),
+        Err(CellError::Kind) => Ok(None),
+        Err(CellError::Bounds(_)) => Ok(None),
     }
 }
 
 /// The rowid and the payload of a cell whose payload is all local.
 fn local_row<'a>(page: &'a [u8], cell: &Cell) -> Option<(u32, &'a [u8])>
-    requires start { cell.now.start ≤ cell.now.end }
-    requires end { cell.now.end ≤ length page.now }
+    requires { IsOnPage page.now cell.now }
     ensures found { IfSome result (λ row. IsLocal page.now cell.now row.0 row.1.now) }
     ensures none { IfNone result ((n : ℕ) → IsLocal page.now cell.now n (take (cell.now.end - cell.now.start) (drop cell.now.start page.now)) → ⊥) }
 {
@@ -54,22 +54,49 @@ fn local_row<'a>(page: &'a [u8], cell: &Cell) -> Option<(u32, &'a [u8])>
     }
 }
 
-/// The one row of page 1.
-pub fn read_first_page(
+/// The row that a cell holds, if it holds one, and all of it on the page.
+fn row_of(alloc: Global, page: &[u8], cell: &Cell) -> Result<Option<SchemaRow>, AllocError>
+    requires { IsOnPage page.now cell.now }
+    ensures found { IfOk result (λ read. IfSome read (HoldsRow page.now cell.now)) }
+    ensures short { IfOk result (λ read. IfSome read (IsShortRow page.now)) }
+    ensures only { (row : SchemaRow) → row.root < 2 ^ 31 → HoldsRow page.now cell.now row → IsRead (λ read. read ≡ row) result }
+{
+    match local_row(page, cell) {
+        Some((rowid, payload)) => read_schema_row(alloc, rowid, payload),
+        None => Ok(None),
+    }
+}
+
+/// The rows that the cells hold, one each.
+fn rows_of(alloc: Global, page: &[u8], cells: &[Cell]) -> Result<Option<Vec<SchemaRow>>, AllocError>
+    requires { AllByRecursion (IsOnPage page.now) cells.now }
+    ensures found { IfOk result (λ read. IfSome read (λ rows. HoldRows page.now cells.now rows.items)) }
+    ensures short { IfOk result (λ read. IfSome read (λ rows. AllByRecursion (IsShortRow page.now) rows.items)) }
+    ensures only { (list : List SchemaRow) → AllByRecursion (λ row. row.root < 2 ^ 31) list → HoldRows page.now cells.now list → IsRead (λ read. read.items ≡ list) result }
+{
+    let mut rows = Vec::new(alloc);
+    for cell in cells {
+        match row_of(alloc, page, cell)? {
+            Some(row) => rows.push(row)?,
+            None => return Ok(None),
+        }
+    }
+    Ok(Some(rows))
+}
+
+/// The rows of page 1, in order.
+pub fn read_rows(
     alloc: Global,
     page: &[u8],
     usable: usize,
-) -> Result<Option<SchemaRow>, AllocError>
+) -> Result<Option<Vec<SchemaRow>>, AllocError>
     requires { IsUsable usable (length page.now) }
-    ensures found { IfOk result (λ read. IfSome read (HoldsOne page.now usable)) }
-    ensures lengths { IfOk result (λ read. IfSome read (λ row. length row.name + length row.table + length row.text ≤ length page.now)) }
-    ensures only { (row : SchemaRow) → row.root < 2 ^ 31 → HoldsOne page.now usable row → IsRowReadAs row result }
+    ensures found { IfOk result (λ read. IfSome read (λ rows. HoldsRows page.now usable rows.items)) }
+    ensures short { IfOk result (λ read. IfSome read (λ rows. AllByRecursion (IsShortRow page.now) rows.items)) }
+    ensures only { (list : List SchemaRow) → AllByRecursion (λ row. row.root < 2 ^ 31) list → HoldsRows page.now usable list → IsRead (λ read. read.items ≡ list) result }
 {
-    let Some(cell) = only_cell(alloc, page, usable)? else {
-        return Ok(None);
-    };
-    match local_row(page, &cell) {
-        Some((rowid, payload)) => read_schema_row(alloc, rowid, payload),
+    match first_cells(alloc, page, usable)? {
+        Some(cells) => rows_of(alloc, page, cells.as_slice()),
         None => Ok(None),
     }
 }

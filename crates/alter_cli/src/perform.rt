@@ -5,11 +5,10 @@ ghost use Rattle.alter_disk.specs.Faults.{Rose};
 ghost use Rattle.alter_cli.specs.Ending.{WhereTold, RanSo, IsCaused, IsLast, IsPerformed, stop_status};
 ghost use Rattle.alter_cli.specs.Outcome.{Misused, file_of};
 
-use crate::run::{open_form, read_command, run_command};
+use crate::run::{open_form, read_commands, run_commands};
 use crate::sink::print;
 use crate::status::Status;
 use crate::stop::Stop;
-use crate::verdict::Verdict;
 use alter_disk::{Disk, Sink, Source};
 use std::alloc::Global;
 
@@ -30,14 +29,14 @@ fn file_name(words: &[String]) -> Option<&str>
     }
 }
 
-/// Reads the script, opens the file, and runs the command.
+/// Reads the script, opens the file, and runs the commands. True says that all of them are done.
 fn perform<D: Disk, S: Source, K: Sink>(
     alloc: Global,
     name: &str,
     disk: &mut D,
     script: &mut S,
     out: &mut K,
-) -> Result<Verdict, Stop>
+) -> Result<bool, Stop>
     requires fresh { D.called disk.old ≡ false }
     requires label { IfSome (D.label disk.old) (λ known. name.now ≡ known) }
     ensures told { WhereTold (S.left script.old) (S.left script.new) (D.files disk.old) (D.files disk.new) (K.written out.old) (K.written out.new)
@@ -48,15 +47,15 @@ fn perform<D: Disk, S: Source, K: Sink>(
     ensures untouched { IsErrAnd result (λ stop. stop_status stop ≡ Status.Script) → disk.new ≡ disk.old }
     ensures later { K.faults out.old ≤ K.faults out.new }
 {
-    let command = match read_command(alloc, script) {
-        Ok(command) => command,
+    let commands = match read_commands(alloc, script) {
+        Ok(commands) => commands,
         Err(stop) => return Err(stop),
     };
     let form = match open_form(alloc, disk, name) {
         Ok(form) => form,
         Err(stop) => return Err(stop),
     };
-    run_command(alloc, disk, &form, &command, out)
+    run_commands(alloc, disk, form, commands.as_slice(), out)
 }
 
 /// Prints the last line of a call that stopped, and gives its status.
@@ -90,8 +89,8 @@ fn run_file<D: Disk, S: Source, K: Sink>(
         ⊎ Rose (D.write_faults disk.old) (D.write_faults disk.new) ⊎ Rose (K.faults out.old) (K.faults out.new) }
 {
     match perform(alloc, name, disk, script, out) {
-        Ok(Verdict::Done) => Status::Done,
-        Ok(Verdict::Refused(_)) => Status::Refused,
+        Ok(true) => Status::Done,
+        Ok(false) => Status::Refused,
         Err(stop) => stopped(&stop, out),
     }
 }

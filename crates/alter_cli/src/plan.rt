@@ -1,17 +1,21 @@
 //! What one command makes of a file.
-ghost use Rattle.std.specs.Prelude.{◌≡◌, ◌<◌, ◌≤◌, ◌^◌, length, IfOk, IfSome};
+ghost use Rattle.std.specs.Prelude.{◌≡◌, ◌<◌, ◌≤◌, ◌^◌, ◌++◌, [], ◌∷◌, map, length, false, All, IsTrue, IfOk, IfSome, IfNone};
+ghost use Rattle.std.specs.List.{AllByRecursion, list_any};
+ghost use Rattle.page_cells.specs.Write.{IsWholeCell};
+ghost use Rattle.schema_rows.specs.Schema.{row_cell};
 ghost use Rattle.alter_cli.specs.Header.{committed};
-ghost use Rattle.alter_cli.specs.Step.{with_column};
-ghost use Rattle.alter_cli.specs.Served.{IsReady};
-ghost use Rattle.alter_cli.specs.Plan.{Plans, IsSmallRow, IsPageWith, KeepsExtent};
+ghost use Rattle.alter_cli.specs.FirstForm.{rows_of};
+ghost use Rattle.alter_cli.specs.Step.{added, are_local, is_named, with_column};
+ghost use Rattle.alter_cli.specs.Served.{IsReady, IsReadyTable};
+ghost use Rattle.alter_cli.specs.Plan.{Plans, HasPlace, IsSmallRow, AreCellsWith, IsPageWith, HasRoomFor, IsTaken, KeepsExtent, put_at};
 
 use crate::form::{Form, Table};
 use crate::header::{HEADER_LEN, number_at};
-use crate::schema::SchemaRow;
-use crate::script::Command;
 use crate::verdict::Refusal;
 use alter_bytes::{Bytes, write_u32};
 use page_cells::{Kind, fits, write_page};
+use plain_sql::Command;
+use schema_rows::SchemaRow;
 use sql_token::same_name;
 use std::alloc::{AllocError, Global};
 
@@ -21,12 +25,22 @@ const MAX_COLUMNS: usize = 2000;
 /// The schema format that an added column wants at least.
 const ADDED_FORMAT: u32 = 3;
 
+/// What a command that is done changes.
+#[derive(Drop)]
+pub struct Change {
+    /// Page 1 becomes this, and every other page stays.
+    pub page: Bytes,
+    /// The place of the table among the file's tables.
+    pub place: usize,
+    /// The table with the column added.
+    pub table: Table,
+}
+
 /// What a command makes of a file.
 #[derive(Drop)]
 pub enum Plan {
     Refused(Refusal),
-    /// Page 1 becomes this, and every other page stays.
-    Changed(Bytes),
+    Changed(Change),
 }
 
 /// Makes of the header that of the file after a command (fileformat2.html, "The Database Header").
@@ -57,79 +71,193 @@ fn text_with(alloc: Global, text: &[u8], end: usize, column: &[u8]) -> Result<By
     Ok(Bytes::new(bytes))
 }
 
-/// The table's row with the column added.
-fn row_with(alloc: Global, table: &Table, column: &Bytes) -> Result<SchemaRow, AllocError>
-    requires { table.now.columns_end ≤ length table.now.row.text }
-    ensures { IfOk result (λ row. row ≡ record table.now.row { text = with_column table.now.row.text table.now.columns_end column.now }) }
-{
-    let text = text_with(
-        alloc,
-        table.row.text.as_slice(),
-        table.columns_end,
-        column.as_slice(),
-    )?;
-    let name = table.row.name.try_clone()?;
-    let owner = table.row.table.try_clone()?;
-    Ok(SchemaRow {
-        rowid: table.row.rowid,
-        name,
-        table: owner,
-        root: table.row.root,
-        text,
-    })
+impl Table {
+    /// The table with the command's column added.
+    fn with_column(&self, alloc: Global, command: &Command) -> Result<Table, AllocError>
+        requires ready { IsReadyTable self.now }
+        requires column { length command.now.column < 2 ^ 30 }
+        ensures { IfOk result (λ table. table ≡ added command.now self.now) }
+    {
+        let text = text_with(
+            alloc,
+            self.row.text.as_slice(),
+            self.columns_end,
+            command.column.as_slice(),
+        )?;
+        let name = self.row.name.try_clone()?;
+        let owner = self.row.table.try_clone()?;
+        let mut columns = self.columns.try_clone()?;
+        columns.push(command.column.try_clone()?)?;
+        Ok(Table {
+            row: SchemaRow {
+                rowid: self.row.rowid,
+                name,
+                table: owner,
+                root: self.row.root,
+                text,
+            },
+            columns,
+            columns_end: self.columns_end + 2 + command.column.len(),
+        })
+    }
 }
 
-/// Page 1 with the header of a committed change and this row alone, if the row's cell has room there.
-fn page_with(alloc: Global, form: &Form, row: &SchemaRow) -> Result<Option<Bytes>, AllocError>
-    requires ready { IsReady form.now }
+/// Adds the row's cell, if its payload is all local, and says whether it is.
+fn push_cell(
+    alloc: Global,
+    usable: usize,
+    row: &SchemaRow,
+    cells: &mut Vec<Bytes>,
+) -> Result<bool, AllocError>
+    requires least { 35 ≤ usable }
     requires small { IsSmallRow row.now }
-    ensures page { IfOk result (IsPageWith form.now row.now) }
-    ensures extent { IfOk result (λ made. IfSome made (λ page. length page ≡ length form.now.page)) }
+    requires whole { All (IsWholeCell usable) cells.old.items }
+    ensures local { IfOk result (λ local. local ≡ are_local usable (row.now ∷ [])) }
+    ensures cells { IfOk result (λ local. IsTrue local → cells.new.items ≡ cells.old.items ++ row_cell row.now ∷ []) }
+    ensures whole { IfOk result (λ local. IsTrue local → All (IsWholeCell usable) cells.new.items) }
 {
     // A rowid of 32 bits has a varint.
     prove!(row.rowid <= u32::MAX);
-    let usable = form.sizes.usable as usize;
     let record = row.record(alloc)?;
     if record.len() > usable - 35 {
-        return Ok(None);
+        return Ok(false);
     }
-    let cells = [row.cell(alloc)?];
-    if !fits(true, usable, Kind::TableLeaf, &cells) {
-        return Ok(None);
-    }
-    let mut page = Vec::from_slice(alloc, form.page.as_slice())?;
-    let (header, _) = page.split_at_mut(HEADER_LEN);
-    commit(header, form.sizes.count);
-    write_page(
-        page.as_mut_slice(),
-        true,
-        usable,
-        Kind::TableLeaf,
-        None,
-        &cells,
-    );
-    Ok(Some(Bytes::new(page)))
+    cells.push(row.cell(alloc)?)?;
+    Ok(true)
 }
 
-/// The first restriction that the command breaks, or page 1 as it leaves it.
-pub fn plan_of(alloc: Global, form: &Form, command: &Command) -> Result<Plan, AllocError>
-    requires ready { IsReady form.now }
-    requires column { length command.now.column < 2 ^ 30 }
-    ensures plan { IfOk result (Plans form.now command.now) }
-    ensures extent { IfOk result (KeepsExtent form.now) }
+/// Adds the cells of the tables' rows, if their payloads are all local, and says whether they are.
+fn push_cells(
+    alloc: Global,
+    usable: usize,
+    tables: &[Table],
+    cells: &mut Vec<Bytes>,
+) -> Result<bool, AllocError>
+    requires least { 35 ≤ usable }
+    requires ready { AllByRecursion IsReadyTable tables.now }
+    requires whole { All (IsWholeCell usable) cells.old.items }
+    ensures local { IfOk result (λ local. local ≡ are_local usable (rows_of tables.now)) }
+    ensures cells { IfOk result (λ local. IsTrue local → cells.new.items ≡ cells.old.items ++ map row_cell (rows_of tables.now)) }
+    ensures whole { IfOk result (λ local. IsTrue local → All (IsWholeCell usable) cells.new.items) }
 {
-    let table = &form.table;
-    if !same_name(command.table.as_slice(), table.row.name.as_slice()) {
-        return Ok(Plan::Refused(Refusal::NoSuchTable));
+    for table in tables {
+        if !push_cell(alloc, usable, &table.row, cells)? {
+            return Ok(false);
+        }
     }
-    if table.columns.contains_folded(command.column.as_slice())
-        || table.columns.len() >= MAX_COLUMNS
+    Ok(true)
+}
+
+impl Form {
+    /// The place of the table that the command is about.
+    fn place_of(&self, command: &Command) -> Option<usize>
+        ensures found { IfSome result (HasPlace command.now self.now.tables.items) }
+        ensures none { IfNone result (list_any (is_named command.now) self.now.tables.items ≡ false) }
     {
-        return Ok(Plan::Refused(Refusal::Unbuilt));
+        for place in 0..self.tables.len() {
+            let table = &self.tables[place];
+            if same_name(command.table.as_slice(), table.row.name.as_slice()) {
+                return Some(place);
+            }
+        }
+        None
     }
-    let row = row_with(alloc, table, &command.column)?;
-    match page_with(alloc, form, &row)? {
-        Some(page) => Ok(Plan::Changed(page)),
-        None => Ok(Plan::Refused(Refusal::Unbuilt)),
+
+    /// The cells of the rows, with this one in place of the row at `place`, if all payloads are local.
+    fn cells_with(
+        &self,
+        alloc: Global,
+        place: usize,
+        row: &SchemaRow,
+    ) -> Result<Option<Vec<Bytes>>, AllocError>
+        requires ready { IsReady self.now }
+        requires place { place < length self.now.tables.items }
+        requires small { IsSmallRow row.now }
+        ensures { IfOk result (AreCellsWith self.now.sizes.usable (put_at place row.now (rows_of self.now.tables.items))) }
+    {
+        let usable = self.sizes.usable as usize;
+        let mut cells = Vec::new(alloc);
+        let (front, behind) = self.tables.as_slice().split_at(place);
+        if push_cells(alloc, usable, front, &mut cells)?
+            && push_cell(alloc, usable, row, &mut cells)?
+            && push_cells(alloc, usable, &behind[1..], &mut cells)?
+        {
+            Ok(Some(cells))
+        } else {
+            Ok(None)
+        }
+    }
+
+    /// Page 1 with the header of a committed change and with this row in place of the one at `place`, if
+    /// the rows have room there.
+    fn page_with(
+        &self,
+        alloc: Global,
+        place: usize,
+        row: &SchemaRow,
+    ) -> Result<Option<Bytes>, AllocError>
+        requires ready { IsReady self.now }
+        requires place { place < length self.now.tables.items }
+        requires small { IsSmallRow row.now }
+        ensures page { IfOk result (IsPageWith self.now (put_at place row.now (rows_of self.now.tables.items))) }
+        ensures extent { IfOk result (λ made. IfSome made (λ page. length page ≡ length self.now.page)) }
+    {
+        let usable = self.sizes.usable as usize;
+        let Some(cells) = self.cells_with(alloc, place, row)? else {
+            return Ok(None);
+        };
+        if !fits(true, usable, Kind::TableLeaf, cells.as_slice()) {
+            return Ok(None);
+        }
+        let mut page = Vec::from_slice(alloc, self.page.as_slice())?;
+        let (header, _) = page.split_at_mut(HEADER_LEN);
+        commit(header, self.sizes.count);
+        write_page(
+            page.as_mut_slice(),
+            true,
+            usable,
+            Kind::TableLeaf,
+            None,
+            cells.as_slice(),
+        );
+        Ok(Some(Bytes::new(page)))
+    }
+
+    /// The first restriction that the command breaks, or what it changes.
+    pub fn plan(&self, alloc: Global, command: &Command) -> Result<Plan, AllocError>
+        requires ready { IsReady self.now }
+        requires column { length command.now.column < 2 ^ 30 }
+        ensures plan { IfOk result (Plans self.now command.now) }
+        ensures extent { IfOk result (KeepsExtent self.now) }
+    {
+        let Some(place) = self.place_of(command) else {
+            return Ok(Plan::Refused(Refusal::NoSuchTable));
+        };
+        let table = &self.tables[place];
+        if table.columns.contains_folded(command.column.as_slice()) {
+            return Ok(Plan::Refused(Refusal::ColumnTaken));
+        }
+        if table.columns.len() >= MAX_COLUMNS {
+            return Ok(Plan::Refused(Refusal::Unbuilt));
+        }
+        let table = table.with_column(alloc, command)?;
+        match self.page_with(alloc, place, &table.row)? {
+            Some(page) => Ok(Plan::Changed(Change { page, place, table })),
+            None => Ok(Plan::Refused(Refusal::Unbuilt)),
+        }
+    }
+
+    /// Takes over what the plan changes. It takes no memory.
+    pub fn take(&mut self, plan: Plan)
+        requires { HasRoomFor self.old plan }
+        ensures { IsTaken self.old plan self.new }
+    {
+        match plan {
+            Plan::Refused(_) => {}
+            Plan::Changed(Change { page, place, table }) => {
+                self.page = page;
+                self.tables[place] = table;
+            }
+        }
     }
 }

@@ -1,38 +1,37 @@
-//! The parts of a call: the script's command, the file's form, and the command's run.
+//! The parts of a call: the script's commands, the file's form, and the run of the commands.
 ghost use Rattle.std.specs.Prelude.{◌≡◌, ◌≤◌, ◌<◌, ◌^◌, ◌++◌, ◌∷◌, [], length, option_map, Some, None, IfOk, IfErr, OnOk, OnErr, IfSome, IsErrOf, is_some, false};
+ghost use Rattle.std.specs.List.{AllByRecursion};
 ghost use Rattle.alter_disk.specs.Changes.{IfTold};
 ghost use Rattle.alter_disk.specs.Faults.{Rose, HasCause};
+ghost use Rattle.plain_sql.specs.Script.{IsPlainCommand};
 ghost use Rattle.alter_cli.specs.Lines.{verdict_line};
-ghost use Rattle.alter_cli.specs.Served.{IsFormOf, IsReady, OnlyReads};
-ghost use Rattle.alter_cli.specs.Plan.{Plans};
-ghost use Rattle.alter_cli.specs.Outcome.{IsServed};
-ghost use Rattle.alter_cli.specs.Ending.{NoCommand, NoForm, NotRun, IsVerdict, TornFirst, left_by, carried, verdict_of, IsShort, IsTornBy};
-ghost use Rattle.alter_cli.specs.declared.verdict.Verdict.TheVariants as verdicts;
+ghost use Rattle.alter_cli.specs.Served.{AreOfForm, IsReady, OnlyReads};
+ghost use Rattle.alter_cli.specs.Plan.{Advances, verdict_on};
+ghost use Rattle.alter_cli.specs.Outcome.{IsServed, is_done};
+ghost use Rattle.alter_cli.specs.Ending.{NoScript, NoForm, IsRunStop, NotRun, OfForm, RanEach, StoppedAt, left_by, carried, verdict_of, IsShort, IsTornBy};
 
 use crate::file::{ReadFault, read_form};
 use crate::form::Form;
-use crate::plan::{Plan, plan_of};
-use crate::script::{Command, read_script};
+use crate::plan::{Change, Plan};
 use crate::script_text::read_text;
 use crate::sink::print;
 use crate::stop::Stop;
 use crate::verdict::Verdict;
 use alter_disk::{Disk, Failed, OpenFault, Sink, Source, Which};
+use plain_sql::{Command, read_script};
 use std::alloc::Global;
 
-/// Reads the script, which is one command so far.
-pub fn read_command<S: Source>(alloc: Global, script: &mut S) -> Result<Command, Stop>
-    ensures found { IfOk result (λ command. IfTold (S.left script.old) (λ text. IsServed text (command ∷ []) × (S.left script.new ≡ Some []))) }
-    ensures small { IfOk result (λ command. length command.column < 2 ^ 30) }
+/// Reads the script.
+pub fn read_commands<S: Source>(alloc: Global, script: &mut S) -> Result<Vec<Command>, Stop>
+    ensures found { IfOk result (λ commands. IfTold (S.left script.old) (λ text. IsServed text commands.items × (S.left script.new ≡ Some []))) }
+    ensures plain { IfOk result (λ commands. AllByRecursion IsPlainCommand commands.items) }
+    ensures small { IfOk result (λ commands. AllByRecursion (λ command. length command.column < 2 ^ 30) commands.items) }
     ensures told { is_some (S.left script.new) ≡ is_some (S.left script.old) }
-    ensures stop { IfErr result (NoCommand (Rose (S.faults script.old) (S.faults script.new)) (S.left script.old) (S.left script.new)) }
+    ensures stop { IfErr result (NoScript (Rose (S.faults script.old) (S.faults script.new)) (S.left script.old) (S.left script.new)) }
 {
     let text = read_text(alloc, script)?;
     match read_script(alloc, text.as_slice())? {
-        Some(mut commands) => match commands.pop() {
-            Some(command) => Ok(command),
-            None => Err(Stop::Unspelled),
-        },
+        Some(commands) => Ok(commands),
         None => Err(Stop::Unspelled),
     }
 }
@@ -56,7 +55,7 @@ pub fn open_form<D: Disk>(alloc: Global, disk: &mut D, name: &str) -> Result<For
     requires first { D.called disk.old ≡ false }
     requires name { IfSome (D.label disk.old) (λ known. name.now ≡ known) }
     ensures ready { IfOk result IsReady }
-    ensures found { IfOk result (λ form. IfTold (D.files disk.old) (λ files. IsFormOf files form)) }
+    ensures found { IfOk result (λ form. IfTold (D.files disk.old) (λ files. AreOfForm files form)) }
     ensures stop { IfErr result (NoForm (Rose (D.read_faults disk.old) (D.read_faults disk.new)) (D.files disk.old)) }
     ensures reads { OnlyReads D.files D.read_faults D.write_faults disk.old disk.new }
 {
@@ -77,7 +76,7 @@ fn carry_out<D: Disk>(disk: &mut D, plan: &Plan) -> Result<(), Failed>
 {
     match plan {
         Plan::Refused(_) => Ok(()),
-        Plan::Changed(page) => {
+        Plan::Changed(Change { page, .. }) => {
             disk.write(Which::Db, 0, page.as_slice())?;
             disk.sync(Which::Db)
         }
@@ -96,34 +95,83 @@ impl Plan {
     }
 }
 
-/// Runs the command, and prints its line once it is done. All memory is taken before the first write.
-pub fn run_command<D: Disk, K: Sink>(
+impl Verdict {
+    /// Whether the command is done.
+    fn is_done(self) -> bool
+        ensures { result ≡ is_done self }
+    {
+        match self {
+            Verdict::Done => true,
+            Verdict::Refused(_) => false,
+        }
+    }
+}
+
+/// Runs the command of this number, and prints its line once it is done. All memory is taken before the
+/// first write.
+fn run_command<D: Disk, K: Sink>(
     alloc: Global,
     disk: &mut D,
-    form: &Form,
+    form: &mut Form,
+    number: u64,
     command: &Command,
     out: &mut K,
 ) -> Result<Verdict, Stop>
-    requires ready { IsReady form.now }
+    requires ready { IsReady form.old }
     requires small { length command.now.column < 2 ^ 30 }
-    ensures verdict { IfOk result (IsVerdict form.now command.now) }
-    ensures files { IfOk result (λ verdict. D.files disk.new ≡ option_map (left_by form.now command.now verdict) (D.files disk.old)) }
-    ensures line { IfOk result (λ verdict. K.written out.new ≡ option_map (λ w. w ++ verdict_line 1 verdict) (K.written out.old)) }
+    ensures ready { OnOk result (IsReady form.new) }
+    ensures verdict { IfOk result (λ verdict. verdict ≡ verdict_on form.old command.now) }
+    ensures form { IfOk result (λ verdict. Advances form.old command.now verdict form.new) }
+    ensures files { IfOk result (λ verdict. D.files disk.new ≡ option_map (left_by form.old command.now verdict) (D.files disk.old)) }
+    ensures line { IfOk result (λ verdict. K.written out.new ≡ option_map (λ w. w ++ verdict_line number verdict) (K.written out.old)) }
     ensures stop { IfErr result (NotRun (Rose (D.write_faults disk.old) (D.write_faults disk.new)) (Rose (K.faults out.old) (K.faults out.new))
-        form.now command.now (D.files disk.old) (D.files disk.new) (K.written out.old) (K.written out.new)) }
+        form.old number command.now (D.files disk.old) (D.files disk.new) (K.written out.old) (K.written out.new)) }
     ensures reads { D.read_faults disk.new ≡ D.read_faults disk.old }
     ensures writes { D.write_faults disk.old ≤ D.write_faults disk.new }
     ensures sink { K.faults out.old ≤ K.faults out.new }
 {
-    let plan = plan_of(alloc, form, command)?;
+    let plan = form.plan(alloc, command)?;
     let verdict = plan.verdict();
-    let line = verdict.line(alloc, 1)?;
+    let line = verdict.line(alloc, number)?;
     match carry_out(disk, &plan) {
-        Ok(()) => {}
+        Ok(()) => form.take(plan),
         Err(_) => return Err(Stop::Unwritten),
     }
     match print(out, line.as_bytes()) {
         Ok(()) => Ok(verdict),
         Err(_) => Err(Stop::Unprinted),
     }
+}
+
+/// Runs the commands one after the other, and says whether all of them are done.
+pub fn run_commands<D: Disk, K: Sink>(
+    alloc: Global,
+    disk: &mut D,
+    mut form: Form,
+    commands: &[Command],
+    out: &mut K,
+) -> Result<bool, Stop>
+    requires ready { IsReady form }
+    requires plain { AllByRecursion IsPlainCommand commands.now }
+    requires small { AllByRecursion (λ command. length command.column < 2 ^ 30) commands.now }
+    ensures ran { IfOk result (λ all_done. OfForm (D.files disk.old) (K.written out.old) form (λ image given.
+        RanEach image commands.now given (D.files disk.new) (K.written out.new) all_done)) }
+    ensures stop { IfErr result (λ stop. OfForm (D.files disk.old) (K.written out.old) form (λ image given.
+        StoppedAt (Rose (D.write_faults disk.old) (D.write_faults disk.new)) (Rose (K.faults out.old) (K.faults out.new))
+        image commands.now given (D.files disk.new) (K.written out.new) stop)) }
+    ensures cause { IfErr result (IsRunStop (Rose (D.write_faults disk.old) (D.write_faults disk.new)) (Rose (K.faults out.old) (K.faults out.new))) }
+    ensures reads { D.read_faults disk.new ≡ D.read_faults disk.old }
+    ensures writes { D.write_faults disk.old ≤ D.write_faults disk.new }
+    ensures sink { K.faults out.old ≤ K.faults out.new }
+{
+    let mut number = 0u64;
+    let mut all_done = true;
+    for command in commands {
+        number += 1;
+        match run_command(alloc, disk, &mut form, number, command, out) {
+            Ok(verdict) => all_done = all_done && verdict.is_done(),
+            Err(stop) => return Err(stop),
+        }
+    }
+    Ok(all_done)
 }

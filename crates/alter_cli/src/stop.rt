@@ -1,4 +1,4 @@
-//! Why a call ends before its command is run.
+//! Why a call ends before all its commands are run.
 ghost use Rattle.std.specs.Prelude.{◌≡◌};
 
 use crate::file::ReadFault;
@@ -6,7 +6,7 @@ use crate::script_text::NoText;
 use crate::status::Status;
 use std::alloc::AllocError;
 
-/// Why a call ends before its command is run.
+/// Why a call ends before all its commands are run.
 #[derive(Drop)]
 pub enum Stop {
     /// The words name no file.

@@ -5,6 +5,8 @@
 pub enum Refusal {
     /// No table has the name.
     NoSuchTable,
+    /// The table has a column of the name.
+    ColumnTaken,
     /// The command is not served yet.
     Unbuilt,
 }

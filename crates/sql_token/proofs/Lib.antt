@@ -1,6 +1,8 @@
 pub mod Enclosed
 pub mod Fillers
 pub mod Fronts
+pub mod Grown
+pub mod Inserted
 pub mod Keywords
 pub mod Names
 pub mod Numbers
@@ -8,5 +10,6 @@ pub mod Operators
 pub mod Places
 pub mod Quotes
 pub mod Runs
+pub mod Stands
 pub mod TokenLists
 pub mod Words

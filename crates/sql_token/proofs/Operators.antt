@@ -94,7 +94,7 @@ operator_tells b bytes class is only =
     (λ one. some_operator b bytes class 1 is only one (above_one fails no_two no_three))
     (λ no_one. no_operator b bytes class is only (above_zero fails no_one no_two no_three))))
 
-other_only : (b : ℕ) (bytes : List ℕ) → OnlyOperators b bytes Other
+pub other_only : (b : ℕ) (bytes : List ℕ) → OnlyOperators b bytes Other
 other_only b bytes Op tail rest split suits form = refl
 other_only b bytes Word tail rest split suits form = absurd suits
 other_only b bytes Quoted tail rest split suits form = absurd suits

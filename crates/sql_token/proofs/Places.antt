@@ -45,7 +45,7 @@ front_tells [] = none_in_nothing
 front_tells (b ∷ bytes) = tells_by (class_of b) b bytes refl (is_of_class b)
 
 -- a front of what stands from a place on is a range of the text
-range_at : (text front rest : List ℕ) (at end : ℕ) → drop at text ≡ front ++ rest → end ≡ at + length front → slice_range text at end ≡ front
+pub range_at : (text front rest : List ℕ) (at end : ℕ) → drop at text ≡ front ++ rest → end ≡ at + length front → slice_range text at end ≡ front
 range_at text front rest at end split is =
     ap (take (end - at)) split ∙ take_at front rest (end - at) (omega arith)
 
@@ -53,7 +53,7 @@ rest_at : (text front rest : List ℕ) (at end : ℕ) → drop at text ≡ front
 rest_at text front rest at end split is =
     ap (λ k. drop k text) is ∙ sym (drop-drop (length front) at text) ∙ ap (drop (length front)) split ∙ drop_at front rest (length front) refl
 
-range_length : (text : List ℕ) (at end : ℕ) → end ≤ length text → length (slice_range text at end) ≡ end - at
+pub range_length : (text : List ℕ) (at end : ℕ) → end ≤ length text → length (slice_range text at end) ≡ end - at
 range_length text at end bound = length-take-le (end - at) (drop at text) (omega (arith, length-drop at text))
 
 -- no form is empty

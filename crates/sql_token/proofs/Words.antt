@@ -14,7 +14,8 @@ use Rattle.sql_token.specs.Token.{is_spoiled}
 use Rattle.sql_token.proofs.Fronts.{Longest, IsFront, Tells, TellsLength, Suits, led, of_kind_tells, shorter_or_same}
 use Rattle.sql_token.proofs.Runs.{Run, run_of, run_counts, run_exact}
 
-abbrev is_quote : ℕ → Bool
+-- the byte is a quote
+abbrev pub is_quote : ℕ → Bool
 is_quote b = eqb b 39
 
 -- ---- a Word
@@ -47,7 +48,7 @@ word_closed : (b : ℕ) (run rest bytes : List ℕ) → bytes ≡ run ++ rest �
 word_closed b [] rest bytes split no_blob = ap (λ l. is_x b && begins is_quote l) (sym split) ∙ no_blob
 word_closed b (c ∷ run) rest bytes split no_blob = refl
 
-word_front : (b : ℕ) (bytes : List ℕ) → class_of b ≡ Letter → starts_word b ≡ true → (is_x b && begins is_quote bytes) ≡ false → IsFront (b ∷ bytes) Word (1 + prefix_len in_word bytes)
+pub word_front : (b : ℕ) (bytes : List ℕ) → class_of b ≡ Letter → starts_word b ≡ true → (is_x b && begins is_quote bytes) ≡ false → IsFront (b ∷ bytes) Word (1 + prefix_len in_word bytes)
 word_front b bytes is starts no_blob =
     let r : Run in_word bytes = run_of in_word bytes in
     record {

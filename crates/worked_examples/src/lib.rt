@@ -2,4 +2,6 @@
 #![tactic(auto)]
 
 #[cfg(test)]
+mod several;
+#[cfg(test)]
 mod tests;

@@ -1,6 +1,7 @@
-use Rattle.std.proofs.Common.{arith}
-use Rattle.alter_cli.proofs.RunLemmas.{is_short}
+use Rattle.alter_cli.proofs.ReadyLemmas.{stays_ready}
 use Rattle.alter_cli.proofs.run.run_command.Goals as goal
 
-pub carry_out-requires : goal.carry_out-requires
-carry_out-requires g c = is_short c.args.form.now c.in_ok-plan.plan c.in_ok-plan.ensures.extent (omega (arith, c.requires.ready.page, c.requires.ready.sound.page))
+pub returns-in-Ok-print-clause-ready : goal.returns-in-Ok-print-clause-ready
+returns-in-Ok-print-clause-ready g c =
+    stays_ready c.args.form.now c.args.command.now c.in_ok-plan.plan c.take.new.self c.requires.ready c.in_ok-plan.ensures.plan c.in_ok-plan.ensures.extent
+    c.take.ensures

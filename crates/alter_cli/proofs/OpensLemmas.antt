@@ -1,0 +1,208 @@
+-- What was read of a file is its image, and what was not read is the image of none.
+use Rattle.std.proofs.Common.{◌≡◌, ◌≤◌, ◌<◌, ℕ, ◌-◌, ◌^◌, ◌*◌, ◌↔◌, true, false, IsTrue, Option, Some, None, IsSomeAnd, Ok, Vec, Global, List, [], ◌∷◌, length, take, refl, sym, ◌∙◌, ap, subst, arith, AllPairs}
+use Rattle.std.specs.declared.alloc.AllocError.{AllocError}
+use Rattle.std.specs.List.{AllByRecursion, slice_get}
+use Rattle.alter_disk.specs.Files.{Files}
+use Rattle.alter_disk.specs.Changes.{IfTold}
+use Rattle.schema_rows.specs.declared.schema.SchemaRow.{SchemaRow}
+use Rattle.plain_sql.specs.Words.{IsRead}
+use Rattle.alter_cli.specs.declared.header.Sizes.{Sizes}
+use Rattle.alter_cli.specs.declared.file.First.{First}
+use Rattle.alter_cli.specs.declared.form.Table.{Table}
+use Rattle.alter_cli.specs.declared.form.Form.{Form}
+use Rattle.alter_cli.specs.Image.{Image, Page, page_bytes}
+use Rattle.alter_cli.specs.Header.{page_count, page_size, usable_size}
+use Rattle.alter_cli.specs.Sizes.{HasSizes, AreSound}
+use Rattle.alter_cli.specs.FirstPage.{HoldsRows, IsEmptyTable}
+use Rattle.alter_cli.specs.FirstForm.{AreApart, AreFiles, HasRoot, IsFirstForm, IsSpelled, first_page, header_of, rows_of}
+use Rattle.alter_cli.specs.Outcome.{Opens}
+use Rattle.alter_cli.specs.Served.{HasFront, HasEmptyRoot, IsFront, IsFrontReadAs, IsFrontReady, IsShortRow, IsReady, IsReadyTable, AreOfForm}
+use Rattle.alter_cli.proofs.ListLemmas.{all_weaker}
+use Rattle.alter_cli.proofs.RowsLemmas.{no_truth}
+use Rattle.alter_cli.proofs.FileLemmas.{all_within}
+use Rattle.alter_cli.proofs.ImageLemmas.{HasFirst, has_first, has_image, image_of, is_header_of, page_of_image, some_page}
+
+-- what holds of the first page of an image that is served
+first_of : (files : Files) (image : Image) (tables : List Table) → AreFiles files image → IsFirstForm image tables → HasFirst files image
+first_of files image tables are form = has_first files image are (some_page image (length image * page_size (header_of image)) form.stored.header)
+
+-- the front of files with an image that is served
+front_of : (files : Files) (image : Image) (tables : List Table) → AreFiles files image → IsFirstForm image tables → HasFront files (rows_of tables)
+front_of files image tables are form =
+    let first = first_of files image tables are form in
+    record {
+      journal = are.journal;
+      header = is_header_of files image tables are form;
+      held = subst (λ (p : List ℕ). HoldsRows p (usable_size (take 100 files.db)) (rows_of tables)) first.page
+          (subst (λ (u : ℕ). HoldsRows (first_page image) u (rows_of tables)) (ap usable_size first.header) form.stored.held);
+    }
+
+-- the roots of an image that is served are small
+small_roots : (files : Files) (image : Image) (tables : List Table) → AreFiles files image → IsFirstForm image tables
+    → AllByRecursion (λ row. row.root < 2 ^ 31) (rows_of tables)
+small_roots files image tables are form = all_weaker (HasRoot image) (λ row. row.root < 2 ^ 31) (rows_of tables) small form.stored.rooted
+  where
+    small : (row : SchemaRow) → HasRoot image row → row.root < 2 ^ 31
+    small row root =
+        let there = root.there in
+        let count = (first_of files image tables are form).count in
+        let few = (is_header_of files image tables are form).few in
+        omega arith
+
+-- a root of an image is there and empty in its files
+empty_root : (files : Files) (image : Image) (sizes : Sizes) (row : SchemaRow) → AreFiles files image → HasFirst files image
+    → HasSizes (take 100 files.db) (length files.db) sizes → HasRoot image row → HasEmptyRoot files sizes row.root
+empty_root files image sizes row are first sized root =
+    let head = take 100 files.db in
+    let size = page_size head in
+    let behind = root.behind in
+    let there = root.there in
+    let count = first.count in
+    let page : slice_get image (row.root - 1) ≡ Some (page_bytes size row.root files.db) =
+    ap (λ (i : Image). slice_get i (row.root - 1)) are.pages ∙ page_of_image files (row.root - 1) (omega arith) in
+    let usable = ap usable_size first.header ∙ sym sized.usable in
+    record {
+      behind = behind;
+      there = subst (λ (n : ℕ). row.root ≤ n) (sym first.count ∙ sym sized.count) there;
+      empty = subst (λ (s : ℕ). IsEmptyTable sizes.usable (page_bytes s row.root files.db)) (sym sized.page)
+          (subst (λ (u : ℕ). IsEmptyTable u (page_bytes size row.root files.db)) usable
+          (subst (λ (p : Option Page). IsSomeAnd p (IsEmptyTable (usable_size (header_of image)))) page root.empty));
+    }
+
+-- a root that is there and empty in files is one of their image
+has_root : (files : Files) (sizes : Sizes) (rows : List SchemaRow) (row : SchemaRow) → HasFront files rows
+    → HasSizes (take 100 files.db) (length files.db) sizes → HasEmptyRoot files sizes row.root → HasRoot (image_of files) row
+has_root files sizes rows row front sized root =
+    let has = has_image files front.journal front.header in
+    let size = page_size (take 100 files.db) in
+    let there : row.root ≤ page_count (take 100 files.db) (length files.db) = subst (λ (n : ℕ). row.root ≤ n) sized.count root.there in
+    let behind = root.behind in
+    let usable = sized.usable ∙ ap usable_size (sym has.header) in
+    let page = page_of_image files (row.root - 1) (omega arith) in
+    let bytes : IsEmptyTable (usable_size (header_of (image_of files))) (page_bytes size row.root files.db) =
+    subst (λ (u : ℕ). IsEmptyTable u (page_bytes size row.root files.db)) usable
+    (subst (λ (s : ℕ). IsEmptyTable sizes.usable (page_bytes s row.root files.db)) sized.page root.empty) in
+    record {
+      behind = behind;
+      there = subst (λ (n : ℕ). row.root ≤ n) (sym has.count) there;
+      empty = subst (λ (p : Option Page). IsSomeAnd p (IsEmptyTable (usable_size (header_of (image_of files))))) (sym page) bytes;
+    }
+
+-- no image that opens the files
+abbrev pub AreUnserved : Files → Type 0
+AreUnserved files = (image : Image) → Opens files image → ⊥
+
+-- fronts of the files are read only so
+abbrev pub OnlyFronts : Option First → Files → Type 0
+OnlyFronts read files = (rows : List SchemaRow) → AllByRecursion (λ row. row.root < 2 ^ 31) rows → HasFront files rows → IsFrontReadAs rows read
+
+-- the rows that were read are those of an image that opens the files
+rows_read : (files : Files) (image : Image) (first : First) (opens : Opens files image) → OnlyFronts (Some first) files → first.rows.items ≡ rows_of opens.tables
+rows_read files image first opens only =
+    only (rows_of opens.tables) (small_roots files image opens.tables opens.files opens.form) (front_of files image opens.tables opens.files opens.form)
+
+-- no front was read, so no file is served
+pub unserved_front : (told : Option Files) → IfTold told (OnlyFronts None) → IfTold told AreUnserved
+unserved_front None only = tt
+unserved_front (Some files) only = λ image opens.
+    only (rows_of opens.tables) (small_roots files image opens.tables opens.files opens.form) (front_of files image opens.tables opens.files opens.form)
+
+-- the rows that were read are not apart
+pub unserved_apart : (told : Option Files) (first : First) → IfTold told (OnlyFronts (Some first)) → (AllPairs AreApart first.rows.items → ⊥)
+    → IfTold told AreUnserved
+unserved_apart None first only none = tt
+unserved_apart (Some files) first only none = λ image opens.
+    none (subst (λ (l : List SchemaRow). AllPairs AreApart l) (sym (rows_read files image first opens only)) opens.form.stored.apart)
+
+-- whether the rows have roots is whether the roots are there and empty
+abbrev pub HaveRoots : Sizes → List SchemaRow → Type 0 → Files → Type 0
+HaveRoots sizes rows Have files = sizes.count * sizes.page ≤ length files.db → Have ↔ AllByRecursion (λ row. HasEmptyRoot files sizes row.root) rows
+
+-- the rows that were read have no roots
+pub unserved_roots : (told now : Option Files) (first : First) → now ≡ told
+    → IfTold told (λ files. IsFront files first.sizes first.page.items first.rows.items) → IfTold told (OnlyFronts (Some first))
+    → IfTold now (HaveRoots first.sizes first.rows.items (IsTrue false)) → IfTold told AreUnserved
+unserved_roots None now first same front only roots = tt
+unserved_roots (Some files) now first same front only roots = λ image opens.
+    let tables = opens.tables in
+    let is = subst (λ t. IfTold t (HaveRoots first.sizes first.rows.items (IsTrue false))) same roots (all_within files first.sizes front.front.header front.sized) in
+    let top = first_of files image tables opens.files opens.form in
+    let empty = all_weaker (HasRoot image) (λ row. HasEmptyRoot files first.sizes row.root) (rows_of tables)
+    (λ row root. empty_root files image first.sizes row opens.files top front.sized root) opens.form.stored.rooted in
+    let rows = sym (rows_read files image first opens only) in
+    no_truth (is.1 (subst (λ (l : List SchemaRow). AllByRecursion (λ row. HasEmptyRoot files first.sizes row.root) l) rows empty))
+
+-- the text of a row that was read is none that is served
+pub unserved_text : (told : Option Files) (first : First) (read : Option (Vec Table Global)) → read ≡ None → IfTold told (OnlyFronts (Some first))
+    → ((list : List Table) → rows_of list ≡ first.rows.items → AllByRecursion IsSpelled list
+    → IsRead {E = AllocError} (λ tables. tables.items ≡ list) (Ok read))
+    → IfTold told AreUnserved
+unserved_text None first read none only texts = tt
+unserved_text (Some files) first read none only texts = λ image opens.
+    subst (λ r. IsRead {E = AllocError} (λ (x : Vec Table Global). x.items ≡ opens.tables) (Ok r)) none
+    (texts opens.tables (sym (rows_read files image first opens only)) opens.form.spelled)
+
+-- all that was read is the form of the image of the files
+pub form_found : (told now : Option Files) (first : First) (form : Form) → now ≡ told → form.sizes ≡ first.sizes → form.page ≡ first.page.items
+    → IfTold told (λ files. IsFront files first.sizes first.page.items first.rows.items)
+    → IfTold now (HaveRoots first.sizes first.rows.items (IsTrue true)) → AllPairs AreApart first.rows.items
+    → rows_of form.tables.items ≡ first.rows.items → AllByRecursion IsSpelled form.tables.items
+    → IfTold told (λ files. AreOfForm files form)
+form_found None now first form same s p front roots apart rows spelled = tt
+form_found (Some files) now first form same s p front roots apart rows spelled =
+    let tables = form.tables.items in
+    let has = has_image files front.front.journal front.front.header in
+    let is = subst (λ t. IfTold t (HaveRoots first.sizes first.rows.items (IsTrue true))) same roots (all_within files first.sizes front.front.header front.sized) in
+    let usable = ap usable_size (sym has.header) in
+    record {
+      image = image_of files;
+      are = has.are;
+      of = record {
+        first = record {
+          stored = record {
+            header = has.allowed;
+            held = subst (λ (l : List SchemaRow). HoldsRows (first_page (image_of files)) (usable_size (header_of (image_of files))) l) (sym rows)
+                (subst (λ (g : List ℕ). HoldsRows g (usable_size (header_of (image_of files))) first.rows.items) (sym has.page)
+                (subst (λ (u : ℕ). HoldsRows (take (page_size (take 100 files.db)) files.db) u first.rows.items) usable front.front.held));
+            apart = subst (λ (l : List SchemaRow). AllPairs AreApart l) (sym rows) apart;
+            rooted = subst (λ (l : List SchemaRow). AllByRecursion (HasRoot (image_of files)) l) (sym rows)
+                (all_weaker (λ row. HasEmptyRoot files first.sizes row.root) (HasRoot (image_of files)) first.rows.items
+                (λ row root. has_root files first.sizes first.rows.items row front.front front.sized root) (is.0 refl));
+          };
+          spelled = spelled;
+        };
+        size = ap (λ (x : Sizes). x.page) s ∙ front.sized.page ∙ ap page_size (sym has.header);
+        usable = ap (λ (x : Sizes). x.usable) s ∙ front.sized.usable ∙ usable;
+        count = ap (λ (x : Sizes). x.count) s ∙ front.sized.count ∙ sym has.count;
+        page = p ∙ front.bytes ∙ sym has.page;
+      };
+    }
+
+-- a table of a short row, whose root is there
+ready_tables : (page : List ℕ) (sizes : Sizes) (tables : List Table) → AreSound sizes → length page ≡ sizes.page
+    → AllByRecursion (IsShortRow page) (rows_of tables) → AllByRecursion (λ row. (2 ≤ row.root) × (row.root ≤ sizes.count)) (rows_of tables)
+    → AllByRecursion (λ table. table.columns_end ≤ length table.row.text) tables → AllByRecursion IsReadyTable tables
+ready_tables page sizes [] sound extent short there inside = tt
+ready_tables page sizes (table ∷ tables) sound extent short there inside =
+    let most = sound.page in
+    let few = sound.few in
+    let long = short.0 in
+    let root = there.0.1 in (
+      record { inside = inside.0; root = omega arith; name = omega arith; owner = omega arith; text = omega arith },
+      ready_tables page sizes tables sound extent short.1 there.1 inside.1,
+    )
+
+-- all that was read is ready
+pub form_ready : (first : First) (form : Form) → form.sizes ≡ first.sizes → form.page ≡ first.page.items
+    → IsFrontReady first.sizes first.page.items first.rows.items → AllPairs AreApart first.rows.items
+    → AllByRecursion (λ row. (2 ≤ row.root) × (row.root ≤ first.sizes.count)) first.rows.items
+    → rows_of form.tables.items ≡ first.rows.items → AllByRecursion (λ table. table.columns_end ≤ length table.row.text) form.tables.items
+    → IsReady form
+form_ready first form s p front apart there rows inside = record {
+  sound = subst AreSound (sym s) front.sound;
+  page = ap length p ∙ front.extent ∙ ap (λ (x : Sizes). x.page) (sym s);
+  tables = ready_tables first.page.items first.sizes form.tables.items front.sound front.extent
+      (subst (λ (l : List SchemaRow). AllByRecursion (IsShortRow first.page.items) l) (sym rows) front.lengths)
+      (subst (λ (l : List SchemaRow). AllByRecursion (λ row. (2 ≤ row.root) × (row.root ≤ first.sizes.count)) l) (sym rows) there) inside;
+  apart = subst (λ (l : List SchemaRow). AllPairs AreApart l) (sym rows) apart;
+}

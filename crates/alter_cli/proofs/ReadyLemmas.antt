@@ -1,0 +1,131 @@
+-- A form stays ready.
+use Rattle.std.proofs.Common.{◌≡◌, ◌≤◌, ℕ, zero, suc, ◌+◌, ◌-◌, Bool, true, false, not, ◌&&◌, ◌||◌, if◌then◌else◌, nat_le, List, [], ◌∷◌, ◌++◌, length, take, drop, Option, Some, None, get_or, codes, refl, sym, ◌∙◌, ap, subst, arith, length-append, length-drop}
+use Rattle.std.proofs.lemmas.Bool.Decides.{nat_tests}
+use Rattle.std.proofs.lemmas.List.{length-take-le}
+use Rattle.std.specs.List.{AllByRecursion, AllPairs, find}
+use Rattle.schema_rows.specs.declared.schema.SchemaRow.{SchemaRow}
+use Rattle.schema_rows.specs.Schema.{row_record}
+use Rattle.schema_rows.proofs.RowWritten.{length-row_record}
+use Rattle.plain_sql.specs.declared.script.Command.{Command}
+use Rattle.alter_cli.specs.declared.form.Form.{Form}
+use Rattle.alter_cli.specs.declared.form.Table.{Table}
+use Rattle.alter_cli.specs.declared.plan.Plan.{Plan}
+use Rattle.alter_cli.specs.declared.plan.Plan.TheVariants as plans
+use Rattle.alter_cli.specs.declared.verdict.Refusal.TheVariants.{ColumnTaken, Unbuilt}
+use Rattle.alter_cli.specs.FirstForm.{AreApart, rows_of}
+use Rattle.alter_cli.specs.Sizes.{AreSound}
+use Rattle.alter_cli.specs.Step.{added, after, are_local, has_column, is_built, is_named, refusal_at, with_column}
+use Rattle.alter_cli.specs.Served.{IsReady, IsReadyTable}
+use Rattle.alter_cli.specs.Plan.{IsTaken, KeepsExtent, Plans}
+
+-- a table as a command may leave it
+abbrev left_table : Bool → Command → Table → Table
+left_table named command table = if named then added command table else table
+
+-- a text with `, ` and a name in it
+length-with_column : (text : List ℕ) (end : ℕ) (column : List ℕ) → end ≤ length text → length (with_column text end column) ≡ length text + 2 + length column
+length-with_column text end column within =
+    let front = length-take-le end text within in
+    let behind = length-drop end text in
+    let whole = length-append (take end text ++ codes ", " ++ column) (drop end text) in
+    let both = length-append (take end text ++ codes ", ") column in
+    let comma : length (take end text ++ codes ", ") ≡ length (take end text) + 2 = length-append (take end text) (codes ", ") in
+    whole ∙ omega (arith, both, comma, front, behind, within)
+
+-- it is as ready as it was, where its record is small
+left_ready : (named : Bool) (command : Command) (table : Table) → IsReadyTable table → length (row_record (left_table named command table).row) ≤ 65536
+    → IsReadyTable (left_table named command table)
+left_ready false command table ready small = ready
+left_ready true command table ready small =
+    let long = length-with_column table.row.text table.columns_end command.column ready.inside in
+    let whole = length-row_record (added command table).row in
+    record {
+      inside = omega (arith, long, ready.inside);
+      root = ready.root;
+      name = ready.name;
+      owner = ready.owner;
+      text = omega (arith, whole, small);
+    }
+
+-- two tests that both pass
+split_and : (a b : Bool) → (a && b) ≡ true → (a ≡ true) × (b ≡ true)
+split_and true b e = (refl, e)
+split_and false b e = absurd cc
+
+-- so are all the tables, where their payloads are local
+left_all : (usable : ℕ) (command : Command) (tables : List Table) → usable ≤ 65536 → AllByRecursion IsReadyTable tables
+    → are_local usable (rows_of (after command tables)) ≡ true → AllByRecursion IsReadyTable (after command tables)
+left_all usable command [] small ready local = tt
+left_all usable command (table ∷ tables) small ready local =
+    let both = split_and (nat_le (length (row_record (left_table (is_named command table) command table).row)) (usable - 35))
+    (are_local usable (rows_of (after command tables))) local in
+    let fits : length (row_record (left_table (is_named command table) command table).row) ≤ 65536 = below _ _ both.0 small in
+    (left_ready (is_named command table) command table ready.0 fits, left_all usable command tables small ready.1 both.1)
+  where
+    below : (n u : ℕ) → nat_le n (u - 35) ≡ true → u ≤ 65536 → n ≤ 65536
+    below n u e h = grind (arith, nat_tests)
+
+-- a row with the rowid, the name and the root of another
+record IsSameRow (a b : SchemaRow) : Type 0 where
+  rowid : a.rowid ≡ b.rowid
+  name : a.name ≡ b.name
+  root : a.root ≡ b.root
+
+-- the row of a table keeps its rowid, name and root
+left_row : (named : Bool) (command : Command) (table : Table) → IsSameRow (left_table named command table).row table.row
+left_row false command table = record { rowid = refl; name = refl; root = refl }
+left_row true command table = record { rowid = refl; name = refl; root = refl }
+
+-- so does each row
+row_at : (command : Command) (tables : List Table) (i : ℕ) (d : SchemaRow) → IsSameRow (get_or (rows_of (after command tables)) i d) (get_or (rows_of tables) i d)
+row_at command [] i d = record { rowid = refl; name = refl; root = refl }
+row_at command (table ∷ tables) zero d = left_row (is_named command table) command table
+row_at command (table ∷ tables) (suc i) d = row_at command tables i d
+
+-- such rows are apart where the others are
+same_apart : (a b c d : SchemaRow) → IsSameRow a c → IsSameRow b d → AreApart c d → AreApart a b
+same_apart a b c d first second apart = record {
+  ascending = omega (arith, first.rowid, second.rowid, apart.ascending);
+  named = λ e. apart.named cc;
+  rooted = λ e. apart.rooted cc;
+}
+
+-- no row is added or lost
+length-rows : (command : Command) (tables : List Table) → length (rows_of (after command tables)) ≡ length (rows_of tables)
+length-rows command [] = refl
+length-rows command (table ∷ tables) = ap suc (length-rows command tables)
+
+-- the rows stay apart
+left_apart : (command : Command) (tables : List Table) → AllPairs AreApart (rows_of tables) → AllPairs AreApart (rows_of (after command tables))
+left_apart command tables apart = λ i j d before within.
+    same_apart (get_or (rows_of (after command tables)) i d) (get_or (rows_of (after command tables)) j d) (get_or (rows_of tables) i d) (get_or (rows_of tables) j d)
+    (row_at command tables i d) (row_at command tables j d) (apart i j d before (omega (arith, length-rows command tables)))
+
+-- no restriction is broken, so the rows have room
+built : (usable : ℕ) (tables : List Table) (command : Command) (found : Option Table) → refusal_at usable tables command found ≡ None
+    → is_built usable (rows_of (after command tables)) ≡ true
+built usable tables command None none = absurd cc
+built usable tables command (Some table) none =
+    room_of (has_column command table) (nat_le 2000 (length table.columns)) (is_built usable (rows_of (after command tables))) none
+  where
+    room_of : (taken many room : Bool) → (if taken then Some ColumnTaken else if many || not room then Some Unbuilt else None) ≡ None → room ≡ true
+    room_of true many room none = absurd cc
+    room_of false true room none = absurd cc
+    room_of false false true none = refl
+    room_of false false false none = absurd cc
+
+-- a form that took over a plan is as ready as before
+pub stays_ready : (form : Form) (command : Command) (plan : Plan) (new : Form) → IsReady form → Plans form command plan → KeepsExtent form plan
+    → IsTaken form plan new → IsReady new
+stays_ready form command (plans.Refused refusal) new ready is keeps taken = subst IsReady (sym taken) ready
+stays_ready form command (plans.Changed change) new ready is keeps taken =
+    let tables = taken.tables ∙ is.2 in
+    let room = built form.sizes.usable form.tables.items command (find (is_named command) form.tables.items) is.0 in
+    let local = (split_and (are_local form.sizes.usable (rows_of (after command form.tables.items))) _ room).0 in
+    let small : form.sizes.usable ≤ 65536 = omega (arith, ready.sound.usable, ready.sound.page) in
+    record {
+      sound = subst AreSound (sym taken.sizes) ready.sound;
+      page = ap length taken.page ∙ keeps ∙ ready.page ∙ ap (λ s. s.page) (sym taken.sizes);
+      tables = subst (AllByRecursion IsReadyTable) (sym tables) (left_all form.sizes.usable command form.tables.items small ready.tables local);
+      apart = subst (λ ts. AllPairs AreApart (rows_of ts)) (sym tables) (left_apart command form.tables.items ready.apart);
+    }

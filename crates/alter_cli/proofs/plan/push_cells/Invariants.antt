@@ -1,0 +1,14 @@
+use Rattle.std.proofs.Common.{◌≡◌, ◌++◌, map, take, true, All}
+use Rattle.page_cells.specs.Write.{IsWholeCell}
+use Rattle.schema_rows.specs.Schema.{row_cell}
+use Rattle.alter_cli.specs.FirstForm.{rows_of}
+use Rattle.alter_cli.specs.Step.{are_local}
+use Rattle.alter_cli.proofs.plan.push_cells.Given as goal
+
+-- the cells of the tables so far were added, each a whole one, and their payloads are all local
+abbrev pub invariant-loop-table : goal.invariant-loop-table
+invariant-loop-table l = record {
+  local : are_local l.usable (rows_of (take l.table-index l.tables)) ≡ true;
+  cells : l.cells.items ≡ l.fn.cells.items ++ map row_cell (rows_of (take l.table-index l.tables));
+  whole : All (IsWholeCell l.usable) l.cells.items;
+}

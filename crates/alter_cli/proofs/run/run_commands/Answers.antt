@@ -1,0 +1,86 @@
+use Rattle.std.proofs.Common.{arith, ◌≡◌, ◌&&◌, ◌<◌, ◌+◌, ◌^◌, length, take, refl, sym, ◌∙◌, ap, subst}
+use Rattle.std.proofs.lemmas.Option.{slice_get_read}
+use Rattle.alter_disk.specs.Faults.{Rose}
+use Rattle.plain_sql.specs.declared.script.Command.{Command}
+use Rattle.alter_cli.specs.Ending.{RanEach, StoppedAt}
+use Rattle.alter_cli.specs.Outcome.{is_done}
+use Rattle.alter_cli.proofs.Grown.{all_read}
+use Rattle.alter_cli.proofs.Reached.{Reached, is_next, of_form, reached_all, reached_more, reached_none, reached_stop, run_cause}
+use Rattle.alter_cli.proofs.run.run_commands.Goals as goal
+use Rattle.alter_cli.proofs.run.run_commands.Goals.{then-all_done, else-all_done}
+
+pub loop-command-init : goal.loop-command-init
+loop-command-init g c = record {
+  reached = reached_none (g.D.Disk.files c.args.disk.now) (g.K.Sink.written c.args.out.now) c.args.form;
+  ready = c.requires.ready;
+  number = refl;
+  reads = refl;
+  writes = omega arith;
+  sink = omega arith;
+}
+
+pub run_command-requires-clause-small : goal.run_command-requires-clause-small
+run_command-requires-clause-small g c =
+    all_read (λ (k : Command). length k.column < 2 ^ 30) c.args.commands.now c.loop-command.command-index c.command-item.result c.requires.small
+    (slice_get_read c.args.commands.now (length c.args.commands.now) c.loop-command.command-index c.command-item.result refl c.loop-command-test.true c.command-item.is)
+
+pub returns-in-Err-clause-stop : goal.returns-in-Err-clause-stop
+returns-in-Err-clause-stop g c =
+    let next = is_next c.args.commands.now c.loop-command.command-index c.loop-command.number c.command-item.result c.requires.plain
+    c.loop-command.invariant.number c.loop-command-test.true c.command-item.is in
+    let write = Rose (g.D.Disk.write_faults c.args.disk.now) (g.D.Disk.write_faults c.run_command.new.disk) in
+    let sunk = Rose (g.K.Sink.faults c.args.out.now) (g.K.Sink.faults c.run_command.new.out) in
+    of_form (g.D.Disk.files c.args.disk.now) (g.K.Sink.written c.args.out.now) c.args.form _
+    (λ image given. StoppedAt write sunk image c.args.commands.now given (g.D.Disk.files c.run_command.new.disk) (g.K.Sink.written c.run_command.new.out) c.in-Err.stop)
+    (λ image given. reached_stop (Rose (g.D.Disk.write_faults c.loop-command.disk) (g.D.Disk.write_faults c.run_command.new.disk))
+    (Rose (g.K.Sink.faults c.loop-command.out) (g.K.Sink.faults c.run_command.new.out)) write sunk image c.args.commands.now given c.loop-command.command-index
+    (c.loop-command.number + 1) c.command-item.result c.loop-command.form (g.D.Disk.files c.loop-command.disk) (g.D.Disk.files c.run_command.new.disk)
+    (g.K.Sink.written c.loop-command.out) (g.K.Sink.written c.run_command.new.out) c.loop-command.all_done c.in-Err.stop
+    (λ r. omega (arith, c.loop-command.invariant.writes, r)) (λ r. omega (arith, c.loop-command.invariant.sink, r))
+    next c.loop-command.invariant.ready c.in-Err.ensures.stop)
+    c.loop-command.invariant.reached
+
+pub returns-in-Err-clause-cause : goal.returns-in-Err-clause-cause
+returns-in-Err-clause-cause g c =
+    run_cause (Rose (g.D.Disk.write_faults c.loop-command.disk) (g.D.Disk.write_faults c.run_command.new.disk))
+    (Rose (g.K.Sink.faults c.loop-command.out) (g.K.Sink.faults c.run_command.new.out))
+    (Rose (g.D.Disk.write_faults c.args.disk.now) (g.D.Disk.write_faults c.run_command.new.disk))
+    (Rose (g.K.Sink.faults c.args.out.now) (g.K.Sink.faults c.run_command.new.out)) c.loop-command.form
+    (c.loop-command.number + 1) c.command-item.result (g.D.Disk.files c.loop-command.disk) (g.D.Disk.files c.run_command.new.disk)
+    (g.K.Sink.written c.loop-command.out) (g.K.Sink.written c.run_command.new.out) c.in-Err.stop
+    (λ r. omega (arith, c.loop-command.invariant.writes, r)) (λ r. omega (arith, c.loop-command.invariant.sink, r)) c.in-Err.ensures.stop
+
+pub loop-command-preserved : goal.loop-command-preserved
+loop-command-preserved g c =
+    let next = is_next c.args.commands.now c.loop-command.command-index c.loop-command.number c.command-item.result c.requires.plain
+    c.loop-command.invariant.number c.loop-command-test.true c.command-item.is in
+    let all : (c.loop-command.all_done && is_done c.in-Ok.verdict) ≡ c.if-all_done.all_done =
+    elim c.if-all_done.branch [
+      | then-all_done w ↦ ap (λ b. b && is_done c.in-Ok.verdict) w.if-all_done.true ∙ sym (w.all_done-is ∙ w.is_done-all_done.ensures)
+      | else-all_done w ↦ ap (λ b. b && is_done c.in-Ok.verdict) w.if-all_done.false ∙ sym w.if-all_done.false ∙ sym w.all_done-is
+    ] in
+    record {
+      reached = of_form (g.D.Disk.files c.args.disk.now) (g.K.Sink.written c.args.out.now) c.args.form _
+          (λ image given. Reached image (take (c.loop-command.command-index + 1) c.args.commands.now) given (g.D.Disk.files c.run_command.new.disk)
+          (g.K.Sink.written c.run_command.new.out) c.run_command.new.form c.if-all_done.all_done)
+          (λ image given r. subst (Reached image (take (c.loop-command.command-index + 1) c.args.commands.now) given (g.D.Disk.files c.run_command.new.disk)
+          (g.K.Sink.written c.run_command.new.out) c.run_command.new.form) all
+          (reached_more image c.args.commands.now given c.loop-command.command-index (c.loop-command.number + 1) c.command-item.result c.in-Ok.verdict
+          c.loop-command.form c.run_command.new.form (g.D.Disk.files c.loop-command.disk) (g.D.Disk.files c.run_command.new.disk)
+          (g.K.Sink.written c.loop-command.out) (g.K.Sink.written c.run_command.new.out) c.loop-command.all_done next c.in-Ok.ensures.verdict c.in-Ok.ensures.form
+          c.in-Ok.ensures.files c.in-Ok.ensures.line r))
+          c.loop-command.invariant.reached;
+      ready = c.in-Ok.ensures.ready;
+      number = ap (λ n. n + 1) c.loop-command.invariant.number;
+      reads = c.run_command.ensures.reads ∙ c.loop-command.invariant.reads;
+      writes = omega (arith, c.loop-command.invariant.writes, c.run_command.ensures.writes);
+      sink = omega (arith, c.loop-command.invariant.sink, c.run_command.ensures.sink);
+    }
+
+pub returns-clause-ran : goal.returns-clause-ran
+returns-clause-ran g c =
+    of_form (g.D.Disk.files c.args.disk.now) (g.K.Sink.written c.args.out.now) c.args.form _
+    (λ image given. RanEach image c.args.commands.now given (g.D.Disk.files c.loop-command.disk) (g.K.Sink.written c.loop-command.out) c.loop-command.all_done)
+    (λ image given. reached_all image c.args.commands.now given c.loop-command.command-index c.loop-command.form (g.D.Disk.files c.loop-command.disk)
+    (g.K.Sink.written c.loop-command.out) c.loop-command.all_done (omega arith))
+    c.loop-command.invariant.reached

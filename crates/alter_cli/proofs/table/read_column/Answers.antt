@@ -1,6 +1,0 @@
-use Rattle.alter_cli.proofs.ColumnsLemmas.{column_begins}
-use Rattle.alter_cli.proofs.WordsLists.{first_or}
-use Rattle.alter_cli.proofs.table.read_column.Goals as goal
-
-pub returns-clause-found : goal.returns-clause-found
-returns-clause-found c = column_begins _ _ _ _ _ _ (first_or c.args.tokens.now _ c.in-len1-up.len_at_least) c.in_ok-name.ensures.found c.behind_words.ensures

@@ -1,0 +1,40 @@
+-- The tokens of the texts and scripts that are served so far.
+use Rattle.std.specs.Prelude.{◌≡◌, ◌≢◌, ℕ, List, Option, Some, None, Result, Ok, Err}
+use Rattle.sql_token.specs.declared.token.Token.{Token}
+use Rattle.sql_token.specs.declared.token.TokenKind.TheVariants.{Word, Op}
+use Rattle.sql_token.specs.declared.keyword.Keyword.{Keyword}
+use Rattle.sql_token.specs.Token.{span}
+use Rattle.sql_token.specs.Form.{IsWord}
+use Rattle.sql_token.specs.Names.{folded}
+use Rattle.sql_token.specs.Keyword.{spelling}
+
+-- the token is this fixed word
+pub record IsFixed (text : List ℕ) (word : Keyword) (token : Token) : Type 0 where
+  pub kind : token.kind ≡ Word
+  pub spelled : folded (span text token) ≡ spelling word
+
+-- the token is this sign
+pub record IsSign (text : List ℕ) (sign : List ℕ) (token : Token) : Type 0 where
+  pub kind : token.kind ≡ Op
+  pub spelled : span text token ≡ sign
+
+-- the token is a word that is none of SQL's, and the name that it spells
+pub record IsPlainName (text : List ℕ) (token : Token) (name : List ℕ) : Type 0 where
+  pub kind : token.kind ≡ Word
+  pub free : (word : Keyword) → folded (span text token) ≢ spelling word
+  pub spelled : name ≡ span text token
+
+-- the bytes are a word and none of SQL's
+pub record IsPlainWord (name : List ℕ) : Type 0 where
+  pub word : IsWord name
+  pub free : (word : Keyword) → folded name ≢ spelling word
+
+-- the token is a word that is none of SQL's
+abbrev pub IsPlain : List ℕ → Token → Type 0
+IsPlain text token = (name : List ℕ) × IsPlainName text token name
+
+-- the text was read, unless memory ran out, and the fact holds of what it was read as
+abbrev pub IsRead : {A E : Type 0} → (A → Type 0) → Result (Option A) E → Type 0
+IsRead P (Ok (Some read)) = P read
+IsRead P (Ok None) = ⊥
+IsRead P (Err fault) = Unit {0}

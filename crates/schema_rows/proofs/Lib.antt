@@ -1,0 +1,4 @@
+pub mod RowFound
+pub mod RowLaws
+pub mod RowRecords
+pub mod RowWritten

@@ -1,0 +1,4 @@
+pub mod Record
+pub mod RowReading
+pub mod RowView
+pub mod Schema

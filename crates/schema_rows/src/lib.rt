@@ -1,0 +1,9 @@
+//! The rows of the schema table that stand for tables, and their records.
+#![tactic(auto)]
+
+mod record;
+mod schema;
+#[cfg(test)]
+mod tests;
+
+pub use schema::{SchemaRow, read_schema_row};
