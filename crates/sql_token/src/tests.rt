@@ -102,3 +102,74 @@ fn letters_of_either_case_are_one(rt: HostRuntime) {
     assert!(rt; Keyword::Add.is_reserved() && !Keyword::Add.is_join_word());
     assert!(rt; Keyword::Left.is_join_word() && !Keyword::Left.is_reserved());
 }
+
+const WORDS: &str =
+    "ABORT ACTION ADD AFTER ALL ALTER ALWAYS ANALYZE AND AS ASC ATTACH AUTOINCREMENT BEFORE \
+    BEGIN BETWEEN BY CASCADE CASE CAST CHECK COLLATE COLUMN COMMIT CONFLICT CONSTRAINT CREATE \
+    CROSS CURRENT CURRENT_DATE CURRENT_TIME CURRENT_TIMESTAMP DATABASE DEFAULT DEFERRABLE \
+    DEFERRED DELETE DESC DETACH DISTINCT DO DROP EACH ELSE END ESCAPE EXCEPT EXCLUDE EXCLUSIVE \
+    EXISTS EXPLAIN FAIL FILTER FIRST FOLLOWING FOR FOREIGN FROM FULL GENERATED GLOB GROUP \
+    GROUPS HAVING IF IGNORE IMMEDIATE IN INDEX INDEXED INITIALLY INNER INSERT INSTEAD \
+    INTERSECT INTO IS ISNULL JOIN KEY LAST LEFT LIKE LIMIT MATCH MATERIALIZED NATURAL NO NOT \
+    NOTHING NOTNULL NULL NULLS OF OFFSET ON OR ORDER OTHERS OUTER OVER PARTITION PLAN PRAGMA \
+    PRECEDING PRIMARY QUERY RAISE RANGE REBUILD RECURSIVE REFERENCES REGEXP REINDEX RELEASE \
+    RENAME REPLACE RESTRICT RETURNING RIGHT ROLLBACK ROW ROWS SAVEPOINT SELECT SET TABLE TEMP \
+    TEMPORARY THEN TIES TO TRANSACTION TRIGGER UNBOUNDED UNION UNIQUE UPDATE USING VACUUM \
+    VALUES VIEW VIRTUAL WHEN WHERE WINDOW WITH WITHOUT";
+
+const RESERVED: &str =
+    "ADD ALL ALTER AND AS AUTOINCREMENT BETWEEN CASE CHECK COLLATE COMMIT CONSTRAINT CREATE \
+    DEFAULT DEFERRABLE DELETE DISTINCT DROP ELSE ESCAPE EXCEPT EXISTS FOREIGN FROM GROUP \
+    HAVING IN INDEX INSERT INTERSECT INTO IS ISNULL JOIN LIMIT NOT NOTHING NOTNULL NULL ON OR \
+    ORDER PRIMARY REFERENCES RETURNING SELECT SET TABLE THEN TO TRANSACTION UNION UNIQUE \
+    UPDATE USING VALUES WHEN WHERE";
+
+const JOIN_WORDS: &str = "CROSS FULL INDEXED INNER LEFT NATURAL OUTER RIGHT";
+
+fn is_among(list: &str, word: &str) -> bool {
+    for other in list.split_whitespace() {
+        if other == word {
+            return true;
+        }
+    }
+    false
+}
+
+/// The word with each second letter in lower case.
+fn in_mixed_case(alloc: Global, word: &str) -> Result<Vec<u8>, Fail> {
+    let mut mixed = Vec::new(alloc);
+    for byte in word.as_bytes() {
+        let upper = mixed.len() % 2 == 0;
+        mixed.push(if upper { *byte } else { fold(*byte) })?;
+    }
+    Ok(mixed)
+}
+
+/// The keyword's own name without `_`, in capitals as the word.
+fn is_named(alloc: Global, keyword: Keyword, word: &str) -> Result<bool, Fail> {
+    let mut letters = Vec::new(alloc);
+    for byte in word.as_bytes() {
+        if *byte != b'_' {
+            letters.push(*byte)?;
+        }
+    }
+    let name = format!(in alloc; "{keyword:?}")?;
+    Ok(same_name(name.as_bytes(), letters.as_slice()))
+}
+
+#[test]
+fn each_word_is_known(rt: HostRuntime) -> Result<(), Fail> {
+    let mut count = 0u32;
+    for word in WORDS.split_whitespace() {
+        let mut mixed = in_mixed_case(rt.alloc(), word)?;
+        let keyword = keyword_of(mixed.as_slice()).ok_or("no keyword")?;
+        assert!(rt; is_named(rt.alloc(), keyword, word)?);
+        assert_eq!(rt; keyword.is_reserved(), is_among(RESERVED, word));
+        assert_eq!(rt; keyword.is_join_word(), is_among(JOIN_WORDS, word));
+        mixed.push(b'x')?;
+        assert!(rt; keyword_of(mixed.as_slice()).is_none());
+        count = count.wrapping_add(1);
+    }
+    assert_eq!(rt; count, 148);
+    Ok(())
+}

@@ -1,0 +1,4 @@
+pub mod Leaf
+pub mod Rules
+pub mod Tokens
+pub mod Tree

@@ -1,0 +1,90 @@
+//! Indexes and views.
+
+use crate::table::{IfNotExists, Indexed};
+use sql_expr::{After, Commas, Expr, InParens, Select, Spelled, tokens_of};
+use sql_token::Token;
+use std::alloc::{AllocError, Global};
+
+/// `CREATE [UNIQUE] INDEX [IF NOT EXISTS] name ON name "(" indexeds ")" [WHERE expr]`
+#[derive(Drop)]
+pub struct CreateIndex {
+    pub create: Token,
+    pub unique: Option<Token>,
+    pub index: Token,
+    pub if_not_exists: Option<IfNotExists>,
+    pub name: Token,
+    pub on: Token,
+    pub table: Token,
+    pub indexeds: InParens<Commas<Indexed>>,
+    pub filter: Option<After<Expr>>,
+}
+
+impl Spelled for CreateIndex {
+    ghost use Rattle.sql_tree.specs.Tokens.{create_index_tokens};
+
+    ghost spelled = { create_index_tokens };
+
+    fn spell(&self, tokens: &mut Vec<Token>) -> Result<(), AllocError> {
+        self.create.spell(tokens)?;
+        self.unique.spell(tokens)?;
+        self.index.spell(tokens)?;
+        self.if_not_exists.spell(tokens)?;
+        self.name.spell(tokens)?;
+        self.on.spell(tokens)?;
+        self.table.spell(tokens)?;
+        self.indexeds.spell(tokens)?;
+        self.filter.spell(tokens)
+    }
+}
+
+impl CreateIndex {
+    ghost use Rattle.std.specs.Prelude.{◌≡◌, IfOk};
+    ghost use Rattle.sql_tree.specs.Tokens.{create_index_tokens};
+
+    /// The tokens of the tree, in order.
+    pub fn flatten(&self, alloc: Global) -> Result<Vec<Token>, AllocError>
+        ensures { IfOk result (λ list. list.items ≡ create_index_tokens self.now) }
+    {
+        tokens_of(alloc, self)
+    }
+}
+
+/// `CREATE VIEW [IF NOT EXISTS] name ["(" names ")"] AS select`
+#[derive(Drop)]
+pub struct CreateView {
+    pub create: Token,
+    pub view: Token,
+    pub if_not_exists: Option<IfNotExists>,
+    pub name: Token,
+    pub columns: Option<InParens<Commas<Token>>>,
+    pub as_word: Token,
+    pub select: Select,
+}
+
+impl Spelled for CreateView {
+    ghost use Rattle.sql_tree.specs.Tokens.{create_view_tokens};
+
+    ghost spelled = { create_view_tokens };
+
+    fn spell(&self, tokens: &mut Vec<Token>) -> Result<(), AllocError> {
+        self.create.spell(tokens)?;
+        self.view.spell(tokens)?;
+        self.if_not_exists.spell(tokens)?;
+        self.name.spell(tokens)?;
+        self.columns.spell(tokens)?;
+        self.as_word.spell(tokens)?;
+        self.select.spell(tokens)
+    }
+}
+
+impl CreateView {
+    ghost use Rattle.std.specs.Prelude.{◌≡◌, IfOk};
+    ghost use Rattle.sql_tree.specs.Tokens.{create_view_tokens};
+
+    /// The tokens of the tree, in order.
+    pub fn flatten(&self, alloc: Global) -> Result<Vec<Token>, AllocError>
+        ensures { IfOk result (λ list. list.items ≡ create_view_tokens self.now) }
+    {
+        tokens_of(alloc, self)
+    }
+}
