@@ -1,5 +1,5 @@
 -- The last line of a call makes its outcome whole.
-use Rattle.std.proofs.Common.{◌≡◌, ◌≤◌, ℕ, ◌+◌, Bool, inl, inr, Option, Some, None, option_map, Ok, Err, IfNone, IsSomeAnd, List, [], ◌∷◌, ◌++◌, length, refl, sym, ◌∙◌, ap, subst, arith}
+use Rattle.std.proofs.Common.{◌≡◌, ◌≤◌, ℕ, ◌+◌, Bool, inl, inr, Option, Some, None, option_map, Ok, Err, IfNone, IfSome, IsSomeAnd, List, [], ◌∷◌, ◌++◌, length, refl, sym, ◌∙◌, ap, subst, arith}
 use Rattle.std.proofs.lemmas.List.{append-nil}
 use Rattle.alter_disk.specs.Files.{Files}
 use Rattle.alter_disk.specs.Changes.{IfTold}
@@ -71,6 +71,7 @@ last_told Part Sunk stop status verdicts given mid now later same (inr is) =
         is.2.rest,
         sym (append-nil verdicts),
         omega arith,
+        inl refl,
         some_is now (mid ++ is.2.front) is.2.written ∙ ap (λ (g : List ℕ). g ++ is.2.front) same,
         is.2.whole,
       ),
@@ -119,6 +120,7 @@ performed_stop Source Read Write First Part Sunk called Unprinted status text le
           front.rest,
           refl,
           omega arith,
+          inr refl,
           ended.1 ∙ some_is mid (given ++ verdict_lines 1 verdicts ++ front.front) front.written,
           append-nil (verdict_lines (1 + length verdicts) (verdict ∷ [])) ∙ verdict_lines-one (1 + length verdicts) verdict ∙ front.whole,
         ),
@@ -181,3 +183,8 @@ misused_told Sunk status (Some w) (Some n) is = last_told Sunk Sunk Misused stat
 pub if_none : {A : Type 0} (option : Option A) (P : Type 0) → P → IfNone option P
 if_none None P is = is
 if_none (Some x) P is = tt
+
+-- a fact that holds holds of a value too
+pub if_some : {A : Type 0} (option : Option A) (P : Type 0) → P → IfSome option (λ _. P)
+if_some None P is = tt
+if_some (Some x) P is = is

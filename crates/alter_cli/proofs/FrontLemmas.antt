@@ -60,12 +60,19 @@ as_front_some (Some files) read found some only = λ rows small front.
     subst (λ r. IsRead {E = AllocError} (λ (x : Vec SchemaRow Global). x.items ≡ rows) (Ok r)) some (only rows small front)
 
 -- calls that only read, and one more
-pub reads_again : {D : Type 0} (files_of : D → Option Files) (reads writes : D → ℕ) (a b c : D) → OnlyReads files_of reads writes a b
-    → OnlyReads files_of reads writes b c → OnlyReads files_of reads writes a c
-reads_again files_of reads writes a b c first second =
+pub reads_again : {D : Type 0} (files_of : D → Option Files) (label_of : D → Option (List ℕ)) (was_called : D → Bool) (reads writes : D → ℕ) (a b c : D)
+    → OnlyReads files_of label_of was_called reads writes a b → OnlyReads files_of label_of was_called reads writes b c
+    → OnlyReads files_of label_of was_called reads writes a c
+reads_again files_of label_of was_called reads writes a b c first second =
     let before = first.later in
     let behind = second.later in
-    record { files = second.files ∙ first.files; later = omega arith; writes_stay = second.writes_stay ∙ first.writes_stay }
+    record {
+      files = second.files ∙ first.files;
+      label = second.label ∙ first.label;
+      called = second.called ∙ first.called;
+      later = omega arith;
+      writes_stay = second.writes_stay ∙ first.writes_stay;
+    }
 
 -- one more row with a root that is there and empty
 pub roots_more : (told now : Option Files) (sizes : Sizes) (rows : List SchemaRow) (i : ℕ) (row : SchemaRow) (has : Bool) → now ≡ told

@@ -1,4 +1,5 @@
 pub mod Added
+pub mod CauseLemmas
 pub mod CommittedLemmas
 pub mod FileLemmas
 pub mod FinishLemmas
@@ -18,6 +19,7 @@ pub mod ReadyLemmas
 pub mod Retold
 pub mod RowsLemmas
 pub mod RunLemmas
+pub mod StatusLemmas
 pub mod Stepped
 pub mod Tables
 pub mod Written

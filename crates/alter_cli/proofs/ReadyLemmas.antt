@@ -1,5 +1,5 @@
 -- A form stays ready.
-use Rattle.std.proofs.Common.{◌≡◌, ◌≤◌, ℕ, zero, suc, ◌+◌, ◌-◌, Bool, true, false, not, ◌&&◌, ◌||◌, if◌then◌else◌, nat_le, List, [], ◌∷◌, ◌++◌, length, take, drop, Option, Some, None, get_or, codes, refl, sym, ◌∙◌, ap, subst, arith, length-append, length-drop}
+use Rattle.std.proofs.Common.{◌≡◌, ◌≤◌, ℕ, zero, suc, ◌+◌, ◌-◌, Bool, true, false, ◌&&◌, if◌then◌else◌, nat_le, List, [], ◌∷◌, ◌++◌, length, take, drop, Option, Some, None, get_or, codes, refl, sym, ◌∙◌, ap, subst, arith, length-append, length-drop}
 use Rattle.std.proofs.lemmas.Bool.Decides.{nat_tests}
 use Rattle.std.proofs.lemmas.List.{length-take-le}
 use Rattle.std.specs.List.{AllByRecursion, AllPairs, find}
@@ -11,7 +11,7 @@ use Rattle.alter_cli.specs.declared.form.Form.{Form}
 use Rattle.alter_cli.specs.declared.form.Table.{Table}
 use Rattle.alter_cli.specs.declared.plan.Plan.{Plan}
 use Rattle.alter_cli.specs.declared.plan.Plan.TheVariants as plans
-use Rattle.alter_cli.specs.declared.verdict.Refusal.TheVariants.{ColumnTaken, Unbuilt}
+use Rattle.alter_cli.specs.declared.verdict.Refusal.TheVariants.{ColumnTaken, TooManyColumns, Unbuilt}
 use Rattle.alter_cli.specs.FirstForm.{AreApart, rows_of}
 use Rattle.alter_cli.specs.Sizes.{AreSound}
 use Rattle.alter_cli.specs.Step.{added, after, are_local, has_column, is_built, is_named, refusal_at, with_column}
@@ -108,7 +108,7 @@ built usable tables command None none = absurd cc
 built usable tables command (Some table) none =
     room_of (has_column command table) (nat_le 2000 (length table.columns)) (is_built usable (rows_of (after command tables))) none
   where
-    room_of : (taken many room : Bool) → (if taken then Some ColumnTaken else if many || not room then Some Unbuilt else None) ≡ None → room ≡ true
+    room_of : (taken many room : Bool) → (if taken then Some ColumnTaken else if many then Some TooManyColumns else if room then None else Some Unbuilt) ≡ None → room ≡ true
     room_of true many room none = absurd cc
     room_of false true room none = absurd cc
     room_of false false true none = refl

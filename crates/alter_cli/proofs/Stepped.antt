@@ -1,5 +1,5 @@
 -- One command on an image, by the form of the image.
-use Rattle.std.proofs.Common.{◌≡◌, ℕ, Bool, true, false, not, ◌||◌, nat_le, if◌then◌else◌, Option, Some, None, List, ◌++◌, ◌*◌, length, map, take, drop, refl, sym, ◌∙◌, ap, ap₂, subst}
+use Rattle.std.proofs.Common.{◌≡◌, ℕ, Bool, true, false, nat_le, if◌then◌else◌, Option, Some, None, List, ◌++◌, ◌*◌, length, map, take, drop, refl, sym, ◌∙◌, ap, ap₂, subst}
 use Rattle.std.specs.List.{find}
 use Rattle.alter_disk.specs.Files.{Files}
 use Rattle.page_cells.specs.Write.{written_page}
@@ -10,7 +10,7 @@ use Rattle.schema_rows.specs.Schema.{row_cell}
 use Rattle.alter_cli.specs.declared.form.Form.{Form}
 use Rattle.alter_cli.specs.declared.form.Table.{Table}
 use Rattle.alter_cli.specs.declared.verdict.Refusal.{Refusal}
-use Rattle.alter_cli.specs.declared.verdict.Refusal.TheVariants.{ColumnTaken, Unbuilt}
+use Rattle.alter_cli.specs.declared.verdict.Refusal.TheVariants.{ColumnTaken, TooManyColumns, Unbuilt}
 use Rattle.alter_cli.specs.declared.verdict.Verdict.{Verdict}
 use Rattle.alter_cli.specs.declared.verdict.Verdict.TheVariants.{Done, Refused}
 use Rattle.alter_cli.specs.Ending.{left_by}
@@ -34,7 +34,7 @@ record IsUnbroken (usable : ℕ) (tables : List Table) (command : Command) (at :
   built : is_built usable (rows_of (after command tables)) ≡ true
 
 -- the tests of a command that breaks no restriction
-tests : (taken many room : Bool) → (if taken then Some ColumnTaken else if many || not room then Some Unbuilt else None) ≡ None
+tests : (taken many room : Bool) → (if taken then Some ColumnTaken else if many then Some TooManyColumns else if room then None else Some Unbuilt) ≡ None
     → (taken ≡ false) × (room ≡ true)
 tests true many room none = absurd cc
 tests false true room none = absurd cc

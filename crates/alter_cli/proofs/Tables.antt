@@ -1,5 +1,5 @@
 -- Lists of tables: which of them a command is about, and what it makes of them.
-use Rattle.std.proofs.Common.{◌≡◌, ◌<◌, ℕ, suc, ◌+◌, Bool, true, false, not, ◌||◌, ◌≤◌, nat_le, if◌then◌else◌, Some, None, List, [], ◌∷◌, ◌++◌, length, take, drop, get_or, AllPairs, refl, sym, ◌∙◌, ap, ap₂, subst, arith, length-append}
+use Rattle.std.proofs.Common.{◌≡◌, ◌<◌, ℕ, suc, ◌+◌, Bool, true, false, ◌||◌, ◌≤◌, nat_le, if◌then◌else◌, Some, None, List, [], ◌∷◌, ◌++◌, length, take, drop, get_or, AllPairs, refl, sym, ◌∙◌, ap, ap₂, subst, arith, length-append}
 use Rattle.std.proofs.Math.Seq.{get_or-append_seam}
 use Rattle.std.proofs.lemmas.Bool.{cond-false, cond-true, false_from_ne_true, le-leb, lt-leb}
 use Rattle.std.proofs.lemmas.List.{drop_more, length-map, length-take-le, map-append, take-append-drop, take_at}
@@ -14,7 +14,7 @@ use Rattle.alter_cli.specs.declared.form.Table.{Table}
 use Rattle.alter_cli.specs.FirstForm.{AreApart, rows_of}
 use Rattle.alter_cli.specs.Plan.{HasPlace, IsPlaceOf, put_at}
 use Rattle.alter_cli.specs.Step.{added, after, has_column, is_built, is_named, refusal_at, refusal_of}
-use Rattle.alter_cli.specs.declared.verdict.Refusal.TheVariants.{ColumnTaken, NoSuchTable, Unbuilt}
+use Rattle.alter_cli.specs.declared.verdict.Refusal.TheVariants.{ColumnTaken, NoSuchTable, TooManyColumns, Unbuilt}
 
 -- what is false of both
 none_of_both : (a b : Bool) → (a || b) ≡ false → (a ≡ false) × (b ≡ false)
@@ -174,15 +174,15 @@ column_taken usable tables command table found taken =
 -- the verdict by its three tests
 tested : (usable : ℕ) (tables : List Table) (command : Command) (table : Table) (many room : Bool) → find (is_named command) tables ≡ Some table
     → has_column command table ≡ false → nat_le 2000 (length table.columns) ≡ many → is_built usable (rows_of (after command tables)) ≡ room
-    → refusal_of usable tables command ≡ (if many || not room then Some Unbuilt else None)
+    → refusal_of usable tables command ≡ (if many then Some TooManyColumns else if room then None else Some Unbuilt)
 tested usable tables command table many room found other columns built =
     ap (refusal_at usable tables command) found
     ∙ cond-false (has_column command table) (Some ColumnTaken) _ other
-    ∙ ap₂ (λ (a b : Bool). if a || not b then Some Unbuilt else None) columns built
+    ∙ ap₂ (λ (a b : Bool). if a then Some TooManyColumns else if b then None else Some Unbuilt) columns built
 
--- the table has as many columns as are served
+-- the table has as many columns as a table may have
 pub too_many : (usable : ℕ) (tables : List Table) (command : Command) (table : Table) → find (is_named command) tables ≡ Some table
-    → has_column command table ≡ false → 2000 ≤ length table.columns → refusal_of usable tables command ≡ Some Unbuilt
+    → has_column command table ≡ false → 2000 ≤ length table.columns → refusal_of usable tables command ≡ Some TooManyColumns
 too_many usable tables command table found other many =
     tested usable tables command table true (is_built usable (rows_of (after command tables))) found other (le-leb 2000 (length table.columns) many) refl
 

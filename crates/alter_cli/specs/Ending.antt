@@ -181,15 +181,6 @@ RanSo Source Read Write Sunk called (Err stop) text left before after given now 
     (verdicts : List Verdict) × Outcome Source Read Write Sunk text before (stop_status stop) verdicts (stop_line stop) after called left
     × (now ≡ given ++ verdict_lines 1 verdicts)
 
--- a stop by a failure has its cause, and no call with a file's name is misused
-abbrev pub IsCaused : Type 0 → Type 0 → Type 0 → Type 0 → Stop → Type 0
-IsCaused Source Read Write Sunk Unread = Source
-IsCaused Source Read Write Sunk Unreadable = Read
-IsCaused Source Read Write Sunk Unwritten = Write
-IsCaused Source Read Write Sunk Unprinted = Sunk
-IsCaused Source Read Write Sunk Misused = ⊥
-IsCaused Source Read Write Sunk _ = Unit {0}
-
 -- a run of commands stops by a failure of writing or of the sink, each with its cause, or for want of memory
 abbrev pub IsRunStop : Type 0 → Type 0 → Stop → Type 0
 IsRunStop Write Sunk Unwritten = Write

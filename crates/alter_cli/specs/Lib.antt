@@ -13,3 +13,4 @@ pub mod Run
 pub mod Outcome
 pub mod StopOf
 pub mod Ending
+pub mod Causes

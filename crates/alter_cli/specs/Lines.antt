@@ -2,7 +2,7 @@
 use Rattle.std.specs.Prelude.{ℕ, ◌+◌, List, [], ◌∷◌, ◌++◌, codes}
 use Rattle.std.specs.Fmt.{decimal}
 use Rattle.alter_cli.specs.declared.verdict.Refusal.{Refusal}
-use Rattle.alter_cli.specs.declared.verdict.Refusal.TheVariants.{NoSuchTable, ColumnTaken, Unbuilt}
+use Rattle.alter_cli.specs.declared.verdict.Refusal.TheVariants.{NoSuchTable, ColumnTaken, TooManyColumns, Unbuilt}
 use Rattle.alter_cli.specs.declared.verdict.Verdict.{Verdict}
 use Rattle.alter_cli.specs.declared.verdict.Verdict.TheVariants.{Done, Refused}
 
@@ -14,6 +14,7 @@ line text = text ++ 10 ∷ []
 abbrev pub refusal_name : Refusal → List ℕ
 refusal_name NoSuchTable = codes "no-such-table"
 refusal_name ColumnTaken = codes "column-taken"
+refusal_name TooManyColumns = codes "too-many-columns"
 refusal_name Unbuilt = codes "unbuilt"
 
 -- what stands behind the command's number

@@ -74,11 +74,12 @@ pub record IsNextDone (text : List ℕ) (count : ℕ) (image : Image) : Type 0 w
   pub new : Image
   pub step : Step image command verdicts.Done new
 
--- nothing was run and the files are as they were, or some commands were run and the files have the image after them
-abbrev pub Stopped : List ℕ → Files → List Verdict → Files → Type 0
-Stopped text before verdicts after =
+-- nothing was run and the files are as they were, or some commands were run on the disk, and the files have the image after
+-- them
+abbrev pub Stopped : List ℕ → Files → List Verdict → Files → Bool → Type 0
+Stopped text before verdicts after called =
     ((verdicts ≡ []) × (after ≡ before))
-    ⊎ ((count : ℕ) × (last : Image) × Ran text before count verdicts last × AreFiles after last)
+    ⊎ ((count : ℕ) × (last : Image) × Ran text before count verdicts last × AreFiles after last × (called ≡ true))
 
 -- some commands were run, and the next one, which is done, was being written on page 1 of the files that they left
 abbrev pub StoppedWriting : List ℕ → Files → List Verdict → Files → Type 0
@@ -92,30 +93,32 @@ StoppedWriting text before verdicts after =
 abbrev pub Outcome : Type 0 → Type 0 → Type 0 → Type 0 → List ℕ → Files → Status → List Verdict → List ℕ → Files → Bool → List ℕ → Type 0
 Outcome Unread Read Write Sunk text before Done verdicts last after called left =
     (image : Image) × RanAll text before verdicts image × AreFiles after image × (list_all is_done verdicts ≡ true) × (last ≡ []) × (left ≡ [])
+    × (called ≡ true)
 Outcome Unread Read Write Sunk text before Refused verdicts last after called left =
     (image : Image) × RanAll text before verdicts image × AreFiles after image × (list_all is_done verdicts ≡ false) × (last ≡ []) × (left ≡ [])
+    × (called ≡ true)
 Outcome Unread Read Write Sunk text before Script verdicts last after called left =
     (verdicts ≡ []) × (after ≡ before) × (called ≡ false)
     × (((script_limit < length text) × (last ≡ too_long_line) × (left ≡ drop (script_limit + 1) text))
     ⊎ ((length text ≤ script_limit) × ((commands : List Command) → IsScript text commands → ⊥) × (last ≡ script_unbuilt_line) × (left ≡ [])))
 Outcome Unread Read Write Sunk text before File verdicts last after called left =
-    (verdicts ≡ []) × (after ≡ before) × (last ≡ file_unbuilt_line) × (left ≡ [])
+    (verdicts ≡ []) × (after ≡ before) × (called ≡ true) × (last ≡ file_unbuilt_line) × (left ≡ [])
     × ((commands : List Command) × IsServed text commands) × ((image : Image) → Opens before image → ⊥)
 Outcome Unread Read Write Sunk text before Fault verdicts last after called left =
     (Unread × (verdicts ≡ []) × (after ≡ before) × (last ≡ fault_read_line) × (called ≡ false))
-    ⊎ (Read × ((commands : List Command) × IsServed text commands) × (verdicts ≡ []) × (after ≡ before) × (last ≡ fault_read_line))
-    ⊎ (Write × StoppedWriting text before verdicts after × (last ≡ fault_write_line))
-    ⊎ (Sunk × Stopped text before verdicts after × (last ≡ []))
-Outcome Unread Read Write Sunk text before Memory verdicts last after called left = Stopped text before verdicts after × (last ≡ memory_line)
+    ⊎ (Read × ((commands : List Command) × IsServed text commands) × (verdicts ≡ []) × (after ≡ before) × (last ≡ fault_read_line) × (called ≡ true))
+    ⊎ (Write × StoppedWriting text before verdicts after × (last ≡ fault_write_line) × (called ≡ true))
+    ⊎ (Sunk × Stopped text before verdicts after called × (last ≡ []))
+Outcome Unread Read Write Sunk text before Memory verdicts last after called left = Stopped text before verdicts after called × (last ≡ memory_line)
 Outcome Unread Read Write Sunk text before Usage verdicts last after called left = ⊥
 
--- A sink was given the lines of the verdicts and one line more, or, after a failure, a front of them, in which the line
--- of the last verdict alone may be missing.
+-- A sink was given the lines of the verdicts and one line more, or, after a failure, these up to a place in the last of
+-- them, which is the last verdict's where there is no line more.
 abbrev pub Told : Type 0 → Status → List Verdict → List ℕ → List ℕ → List ℕ → Status → Type 0
 Told Sunk planned verdicts last given now status =
     ((status ≡ planned) × (now ≡ given ++ verdict_lines 1 verdicts ++ last))
     ⊎ (Sunk × (status ≡ Fault) × ((printed : List Verdict) × (others : List Verdict) × (front : List ℕ) × (rest : List ℕ)
-    × (verdicts ≡ printed ++ others) × (length others ≤ 1) × (now ≡ given ++ verdict_lines 1 printed ++ front)
+    × (verdicts ≡ printed ++ others) × (length others ≤ 1) × ((others ≡ []) ⊎ (last ≡ [])) × (now ≡ given ++ verdict_lines 1 printed ++ front)
     × (verdict_lines (1 + length printed) others ++ last ≡ front ++ rest)))
 
 -- the call with a file's name ended with this status, and the sink that had `given` has `now`

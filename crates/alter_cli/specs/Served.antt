@@ -1,5 +1,5 @@
 -- A file that is served, as far as it is read off its disk.
-use Rattle.std.specs.Prelude.{◌≡◌, ◌≤◌, ℕ, ◌+◌, List, [], length, take, Option, Some, None, AllPairs}
+use Rattle.std.specs.Prelude.{Bool, true, ◌≡◌, ◌≤◌, ℕ, ◌+◌, List, [], length, take, Option, Some, None, AllPairs}
 use Rattle.std.specs.List.{AllByRecursion}
 use Rattle.alter_disk.specs.Files.{Files}
 use Rattle.schema_rows.specs.declared.schema.SchemaRow.{SchemaRow}
@@ -83,7 +83,17 @@ pub record IsReady (form : Form) : Type 0 where
   pub apart : AllPairs AreApart (rows_of form.tables.items)
 
 -- calls that only read changed no byte and did not fail to write
-pub record OnlyReads {D : Type 0} (files_of : D → Option Files) (reads writes : D → ℕ) (old new : D) : Type 0 where
+pub record OnlyReads {D : Type 0} (files_of : D → Option Files) (label_of : D → Option (List ℕ)) (was_called : D → Bool) (reads writes : D → ℕ) (old new : D) : Type 0 where
   pub files : files_of new ≡ files_of old
+  pub label : label_of new ≡ label_of old
+  pub called : was_called new ≡ was_called old
+  pub later : reads old ≤ reads new
+  pub writes_stay : writes new ≡ writes old
+
+-- the same of a call of `open` and of those behind it
+pub record OnlyOpens {D : Type 0} (files_of : D → Option Files) (label_of : D → Option (List ℕ)) (was_called : D → Bool) (reads writes : D → ℕ) (old new : D) : Type 0 where
+  pub files : files_of new ≡ files_of old
+  pub label : label_of new ≡ label_of old
+  pub called : was_called new ≡ true
   pub later : reads old ≤ reads new
   pub writes_stay : writes new ≡ writes old

@@ -1,5 +1,5 @@
 -- What one command does to an image.
-use Rattle.std.specs.Prelude.{◌≡◌, ℕ, ◌+◌, ◌-◌, Bool, true, not, ◌&&◌, ◌||◌, nat_le, nat_eq, if◌then◌else◌, Option, Some, None, List, [], ◌∷◌, ◌++◌, length, map, take, drop, find, codes}
+use Rattle.std.specs.Prelude.{◌≡◌, ℕ, ◌+◌, ◌-◌, Bool, true, ◌&&◌, nat_le, nat_eq, if◌then◌else◌, Option, Some, None, List, [], ◌∷◌, ◌++◌, length, map, take, drop, find, codes}
 use Rattle.std.specs.List.{list_any, list_all}
 use Rattle.std.specs.Cmp.Lexicographic.{pointwise}
 use Rattle.page_cells.specs.Layout.{pointer_place}
@@ -9,7 +9,7 @@ use Rattle.schema_rows.specs.declared.schema.SchemaRow.{SchemaRow}
 use Rattle.alter_cli.specs.declared.form.Table.{Table}
 use Rattle.plain_sql.specs.declared.script.Command.{Command}
 use Rattle.alter_cli.specs.declared.verdict.Refusal.{Refusal}
-use Rattle.alter_cli.specs.declared.verdict.Refusal.TheVariants.{NoSuchTable, ColumnTaken, Unbuilt}
+use Rattle.alter_cli.specs.declared.verdict.Refusal.TheVariants.{NoSuchTable, ColumnTaken, TooManyColumns, Unbuilt}
 use Rattle.alter_cli.specs.declared.verdict.Verdict.{Verdict}
 use Rattle.alter_cli.specs.declared.verdict.Verdict.TheVariants.{Done, Refused}
 use Rattle.alter_cli.specs.Image.{Image}
@@ -58,8 +58,9 @@ abbrev pub refusal_at : ℕ → List Table → Command → Option Table → Opti
 refusal_at usable tables command None = Some NoSuchTable
 refusal_at usable tables command (Some table) =
     if has_column command table then Some ColumnTaken
-    else if nat_le 2000 (length table.columns) || not (is_built usable (rows_of (after command tables))) then Some Unbuilt
-    else None
+    else if nat_le 2000 (length table.columns) then Some TooManyColumns
+    else if is_built usable (rows_of (after command tables)) then None
+    else Some Unbuilt
 
 -- the first restriction that the command breaks
 abbrev pub refusal_of : ℕ → List Table → Command → Option Refusal

@@ -53,7 +53,7 @@ fn fill<D: Disk>(disk: &mut D, at: u64, buf: &mut [u8]) -> Result<(), Failed>
     requires { at ≤ 2 ^ 30 }
     ensures filled { OnOk result (IfTold (D.files disk.old) (λ files. at + length buf.old ≤ length files.db → buf.new ≡ take (length buf.old) (drop at files.db))) }
     ensures failed { OnErr result (Rose (D.read_faults disk.old) (D.read_faults disk.new)) }
-    ensures reads { OnlyReads D.files D.read_faults D.write_faults disk.old disk.new }
+    ensures reads { OnlyReads D.files D.label D.called D.read_faults D.write_faults disk.old disk.new }
 {
     disk.read(Which::Db, at, buf)?;
     Ok(())
@@ -70,7 +70,7 @@ struct Opening {
 fn lengths<D: Disk>(disk: &mut D) -> Result<(u64, u64), Failed>
     ensures told { IfOk result (λ found. IfTold (D.files disk.old) (λ files. (found.0 ≡ length files.journal) × (found.1 ≡ length files.db))) }
     ensures failed { OnErr result (Rose (D.read_faults disk.old) (D.read_faults disk.new)) }
-    ensures reads { OnlyReads D.files D.read_faults D.write_faults disk.old disk.new }
+    ensures reads { OnlyReads D.files D.label D.called D.read_faults D.write_faults disk.old disk.new }
 {
     let journal = disk.len(Which::Journal)?;
     let db = disk.len(Which::Db)?;
@@ -83,7 +83,7 @@ fn read_opening<D: Disk>(disk: &mut D) -> Result<Option<Opening>, Failed>
     ensures found { IfOk result (λ read. IfSome read (λ opening. IfTold (D.files disk.old) (λ files. IsOpening files opening.sizes opening.header))) }
     ensures unserved { IfOk result (λ read. IfNone read (IfTold (D.files disk.old) (λ files. files.journal ≡ [] → IsHeader (take 100 files.db) (length files.db) → ⊥))) }
     ensures failed { OnErr result (Rose (D.read_faults disk.old) (D.read_faults disk.new)) }
-    ensures reads { OnlyReads D.files D.read_faults D.write_faults disk.old disk.new }
+    ensures reads { OnlyReads D.files D.label D.called D.read_faults D.write_faults disk.old disk.new }
 {
     let (journal, len) = lengths(disk)?;
     if journal != 0 || len < HEADER_LEN as u64 {
@@ -108,7 +108,7 @@ fn read_bytes<D: Disk>(
     ensures extent { IfOk result (λ bytes. length bytes.items ≡ len) }
     ensures found { IfOk result (λ bytes. IfTold (D.files disk.old) (λ files. at + len ≤ length files.db → bytes.items ≡ take len (drop at files.db))) }
     ensures failed { IsErrOf result ReadFault.Failed → Rose (D.read_faults disk.old) (D.read_faults disk.new) }
-    ensures reads { OnlyReads D.files D.read_faults D.write_faults disk.old disk.new }
+    ensures reads { OnlyReads D.files D.label D.called D.read_faults D.write_faults disk.old disk.new }
 {
     let mut bytes = vec![in alloc; 0u8; len]?;
     fill(disk, at, bytes.as_mut_slice())?;
@@ -121,7 +121,7 @@ fn read_first<D: Disk>(alloc: Global, disk: &mut D, opening: &Opening) -> Result
     ensures extent { IfOk result (λ page. length page.items ≡ opening.now.sizes.page) }
     ensures found { IfOk result (λ page. IfTold (D.files disk.old) (λ files. IsOpening files opening.now.sizes opening.now.header → page.items ≡ take opening.now.sizes.page files.db)) }
     ensures failed { IsErrOf result ReadFault.Failed → Rose (D.read_faults disk.old) (D.read_faults disk.new) }
-    ensures reads { OnlyReads D.files D.read_faults D.write_faults disk.old disk.new }
+    ensures reads { OnlyReads D.files D.label D.called D.read_faults D.write_faults disk.old disk.new }
 {
     let behind = read_bytes(
         alloc,
@@ -146,7 +146,7 @@ fn read_page<D: Disk>(
     ensures extent { IfOk result (λ page. length page.items ≡ size) }
     ensures found { IfOk result (λ page. IfTold (D.files disk.old) (λ files. number * size ≤ length files.db → page.items ≡ page_bytes size number files.db)) }
     ensures failed { IsErrOf result ReadFault.Failed → Rose (D.read_faults disk.old) (D.read_faults disk.new) }
-    ensures reads { OnlyReads D.files D.read_faults D.write_faults disk.old disk.new }
+    ensures reads { OnlyReads D.files D.label D.called D.read_faults D.write_faults disk.old disk.new }
 {
     read_bytes(
         alloc,
@@ -170,7 +170,7 @@ fn read_front<D: Disk>(alloc: Global, disk: &mut D) -> Result<Option<First>, Rea
     ensures found { IfOk result (λ read. IfSome read (λ first. IfTold (D.files disk.old) (λ files. IsFront files first.sizes first.page.items first.rows.items))) }
     ensures only { IfOk result (λ read. IfTold (D.files disk.old) (λ files. (rows : List SchemaRow) → AllByRecursion (λ row. row.root < 2 ^ 31) rows → HasFront files rows → IsFrontReadAs rows read)) }
     ensures failed { IsErrOf result ReadFault.Failed → Rose (D.read_faults disk.old) (D.read_faults disk.new) }
-    ensures reads { OnlyReads D.files D.read_faults D.write_faults disk.old disk.new }
+    ensures reads { OnlyReads D.files D.label D.called D.read_faults D.write_faults disk.old disk.new }
 {
     let Some(opening) = read_opening(disk)? else {
         return Ok(None);
@@ -197,7 +197,7 @@ fn has_root<D: Disk>(
     ensures there { IfOk result (λ has. IsTrue has → (2 ≤ root) × (root ≤ sizes.now.count)) }
     ensures told { IfOk result (λ has. IfTold (D.files disk.old) (λ files. sizes.now.count * sizes.now.page ≤ length files.db → IsTrue has ↔ HasEmptyRoot files sizes.now root)) }
     ensures failed { IsErrOf result ReadFault.Failed → Rose (D.read_faults disk.old) (D.read_faults disk.new) }
-    ensures reads { OnlyReads D.files D.read_faults D.write_faults disk.old disk.new }
+    ensures reads { OnlyReads D.files D.label D.called D.read_faults D.write_faults disk.old disk.new }
 {
     if root < 2 || root > sizes.count {
         return Ok(false);
@@ -218,7 +218,7 @@ fn have_roots<D: Disk>(
     ensures told { IfOk result (λ have. IfTold (D.files disk.old) (λ files. sizes.now.count * sizes.now.page ≤ length files.db
         → IsTrue have ↔ AllByRecursion (λ row. HasEmptyRoot files sizes.now row.root) rows.now)) }
     ensures failed { IsErrOf result ReadFault.Failed → Rose (D.read_faults disk.old) (D.read_faults disk.new) }
-    ensures reads { OnlyReads D.files D.read_faults D.write_faults disk.old disk.new }
+    ensures reads { OnlyReads D.files D.label D.called D.read_faults D.write_faults disk.old disk.new }
 {
     for row in rows {
         if !has_root(alloc, disk, sizes, row.root)? {
@@ -234,7 +234,7 @@ pub fn read_form<D: Disk>(alloc: Global, disk: &mut D) -> Result<Option<Form>, R
     ensures found { IfOk result (λ read. IfSome read (λ form. IfTold (D.files disk.old) (λ files. AreOfForm files form))) }
     ensures unserved { IfOk result (λ read. IfNone read (IfTold (D.files disk.old) (λ files. (image : Image) → Opens files image → ⊥))) }
     ensures failed { IsErrOf result ReadFault.Failed → Rose (D.read_faults disk.old) (D.read_faults disk.new) }
-    ensures reads { OnlyReads D.files D.read_faults D.write_faults disk.old disk.new }
+    ensures reads { OnlyReads D.files D.label D.called D.read_faults D.write_faults disk.old disk.new }
 {
     let Some(First { sizes, page, rows }) = read_front(alloc, disk)? else {
         return Ok(None);

@@ -13,6 +13,7 @@ impl Refusal {
         match self {
             Refusal::NoSuchTable => "no-such-table",
             Refusal::ColumnTaken => "column-taken",
+            Refusal::TooManyColumns => "too-many-columns",
             Refusal::Unbuilt => "unbuilt",
         }
     }

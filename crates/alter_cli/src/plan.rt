@@ -19,7 +19,7 @@ use schema_rows::SchemaRow;
 use sql_token::same_name;
 use std::alloc::{AllocError, Global};
 
-/// The most columns of a table that are served.
+/// The most columns of a table (limits.html, "Maximum Number Of Columns").
 const MAX_COLUMNS: usize = 2000;
 
 /// The schema format that an added column wants at least.
@@ -238,7 +238,7 @@ impl Form {
             return Ok(Plan::Refused(Refusal::ColumnTaken));
         }
         if table.columns.len() >= MAX_COLUMNS {
-            return Ok(Plan::Refused(Refusal::Unbuilt));
+            return Ok(Plan::Refused(Refusal::TooManyColumns));
         }
         let table = table.with_column(alloc, command)?;
         match self.page_with(alloc, place, &table.row)? {

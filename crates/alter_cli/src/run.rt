@@ -1,13 +1,15 @@
 //! The parts of a call: the script's commands, the file's form, and the run of the commands.
-ghost use Rattle.std.specs.Prelude.{◌≡◌, ◌≤◌, ◌<◌, ◌^◌, ◌++◌, ◌∷◌, [], length, option_map, Some, None, IfOk, IfErr, OnOk, OnErr, IfSome, IsErrOf, is_some, false};
+ghost use Rattle.std.specs.Prelude.{◌≡◌, ◌≤◌, ◌<◌, ◌^◌, ◌++◌, ◌∷◌, [], length, option_map, Some, None, IfOk, IfErr, OnOk, OnErr, IfSome, IsErrOf, is_some, IsSomeAnd, false};
 ghost use Rattle.std.specs.List.{AllByRecursion};
 ghost use Rattle.alter_disk.specs.Changes.{IfTold};
 ghost use Rattle.alter_disk.specs.Faults.{Rose, HasCause};
+ghost use Rattle.alter_disk.specs.Rest.{KeepsRest};
 ghost use Rattle.plain_sql.specs.Script.{IsPlainCommand};
 ghost use Rattle.alter_cli.specs.Lines.{verdict_line};
-ghost use Rattle.alter_cli.specs.Served.{AreOfForm, IsReady, OnlyReads};
+ghost use Rattle.alter_cli.specs.Served.{AreOfForm, IsReady, OnlyOpens};
 ghost use Rattle.alter_cli.specs.Plan.{Advances, verdict_on};
 ghost use Rattle.alter_cli.specs.Outcome.{IsServed, is_done};
+ghost use Rattle.alter_cli.specs.Causes.{IsFrontTaken};
 ghost use Rattle.alter_cli.specs.Ending.{NoScript, NoForm, IsRunStop, NotRun, OfForm, RanEach, StoppedAt, left_by, carried, verdict_of, IsShort, IsTornBy};
 
 use crate::file::{ReadFault, read_form};
@@ -27,7 +29,9 @@ pub fn read_commands<S: Source>(alloc: Global, script: &mut S) -> Result<Vec<Com
     ensures plain { IfOk result (λ commands. AllByRecursion IsPlainCommand commands.items) }
     ensures small { IfOk result (λ commands. AllByRecursion (λ command. length command.column < 2 ^ 30) commands.items) }
     ensures told { is_some (S.left script.new) ≡ is_some (S.left script.old) }
+    ensures taken { IfTold (S.left script.old) (λ text. IsSomeAnd (S.left script.new) (IsFrontTaken text)) }
     ensures stop { IfErr result (NoScript (Rose (S.faults script.old) (S.faults script.new)) (S.left script.old) (S.left script.new)) }
+    ensures later { S.faults script.old ≤ S.faults script.new }
 {
     let text = read_text(alloc, script)?;
     match read_script(alloc, text.as_slice())? {
@@ -41,7 +45,7 @@ fn open<D: Disk>(disk: &mut D, name: &str) -> Result<(), ReadFault>
     requires first { D.called disk.old ≡ false }
     requires name { IfSome (D.label disk.old) (λ known. name.now ≡ known) }
     ensures failed { IsErrOf result ReadFault.Failed → Rose (D.read_faults disk.old) (D.read_faults disk.new) }
-    ensures reads { OnlyReads D.files D.read_faults D.write_faults disk.old disk.new }
+    ensures reads { OnlyOpens D.files D.label D.called D.read_faults D.write_faults disk.old disk.new }
 {
     match disk.open(name) {
         Ok(()) => Ok(()),
@@ -57,7 +61,7 @@ pub fn open_form<D: Disk>(alloc: Global, disk: &mut D, name: &str) -> Result<For
     ensures ready { IfOk result IsReady }
     ensures found { IfOk result (λ form. IfTold (D.files disk.old) (λ files. AreOfForm files form)) }
     ensures stop { IfErr result (NoForm (Rose (D.read_faults disk.old) (D.read_faults disk.new)) (D.files disk.old)) }
-    ensures reads { OnlyReads D.files D.read_faults D.write_faults disk.old disk.new }
+    ensures reads { OnlyOpens D.files D.label D.called D.read_faults D.write_faults disk.old disk.new }
 {
     open(disk, name)?;
     match read_form(alloc, disk)? {
@@ -72,7 +76,8 @@ fn carry_out<D: Disk>(disk: &mut D, plan: &Plan) -> Result<(), Failed>
     ensures done { OnOk result (D.files disk.new ≡ option_map (carried plan.now) (D.files disk.old)) }
     ensures torn { OnErr result (IsTornBy plan.now (D.files disk.old) (D.files disk.new)) }
     ensures cause { HasCause (D.write_faults disk.old) (D.write_faults disk.new) result }
-    ensures reads { D.read_faults disk.new ≡ D.read_faults disk.old }
+    ensures telling { is_some (D.files disk.new) ≡ is_some (D.files disk.old) }
+    ensures rest { KeepsRest D.label D.called D.opened D.read_faults disk.old disk.new }
 {
     match plan {
         Plan::Refused(_) => Ok(()),
@@ -126,7 +131,8 @@ fn run_command<D: Disk, K: Sink>(
     ensures line { IfOk result (λ verdict. K.written out.new ≡ option_map (λ w. w ++ verdict_line number verdict) (K.written out.old)) }
     ensures stop { IfErr result (NotRun (Rose (D.write_faults disk.old) (D.write_faults disk.new)) (Rose (K.faults out.old) (K.faults out.new))
         form.old number command.now (D.files disk.old) (D.files disk.new) (K.written out.old) (K.written out.new)) }
-    ensures reads { D.read_faults disk.new ≡ D.read_faults disk.old }
+    ensures telling { is_some (D.files disk.new) ≡ is_some (D.files disk.old) }
+    ensures rest { KeepsRest D.label D.called D.opened D.read_faults disk.old disk.new }
     ensures writes { D.write_faults disk.old ≤ D.write_faults disk.new }
     ensures sink { K.faults out.old ≤ K.faults out.new }
 {
@@ -160,7 +166,8 @@ pub fn run_commands<D: Disk, K: Sink>(
         StoppedAt (Rose (D.write_faults disk.old) (D.write_faults disk.new)) (Rose (K.faults out.old) (K.faults out.new))
         image commands.now given (D.files disk.new) (K.written out.new) stop)) }
     ensures cause { IfErr result (IsRunStop (Rose (D.write_faults disk.old) (D.write_faults disk.new)) (Rose (K.faults out.old) (K.faults out.new))) }
-    ensures reads { D.read_faults disk.new ≡ D.read_faults disk.old }
+    ensures telling { is_some (D.files disk.new) ≡ is_some (D.files disk.old) }
+    ensures rest { KeepsRest D.label D.called D.opened D.read_faults disk.old disk.new }
     ensures writes { D.write_faults disk.old ≤ D.write_faults disk.new }
     ensures sink { K.faults out.old ≤ K.faults out.new }
 {

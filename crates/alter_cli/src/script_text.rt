@@ -1,7 +1,8 @@
 //! The script's text out of its source.
-ghost use Rattle.std.specs.Prelude.{◌≡◌, ◌≤◌, ◌<◌, ◌+◌, [], length, drop, Some, IfOk, IsErrOf, is_some};
+ghost use Rattle.std.specs.Prelude.{◌≡◌, ◌≤◌, ◌<◌, ◌+◌, [], length, drop, Some, IfOk, IsErrOf, is_some, IsSomeAnd};
 ghost use Rattle.alter_disk.specs.Changes.{IfTold};
 ghost use Rattle.alter_disk.specs.Faults.{Rose};
+ghost use Rattle.alter_cli.specs.Causes.{IsFrontTaken};
 
 use alter_disk::{Failed, Source};
 use std::alloc::{AllocError, Global};
@@ -50,7 +51,9 @@ pub fn read_text<S: Source>(alloc: Global, script: &mut S) -> Result<Vec<u8>, No
     ensures too_long { IsErrOf result NoText.TooLong → IfTold (S.left script.old) (λ bytes. SCRIPT_LIMIT < length bytes) }
     ensures past { IsErrOf result NoText.TooLong → IfTold (S.left script.old) (λ bytes. S.left script.new ≡ Some (drop (SCRIPT_LIMIT + 1) bytes)) }
     ensures told { is_some (S.left script.new) ≡ is_some (S.left script.old) }
+    ensures taken { IfTold (S.left script.old) (λ bytes. IsSomeAnd (S.left script.new) (IsFrontTaken bytes)) }
     ensures failed { IsErrOf result NoText.Failed → Rose (S.faults script.old) (S.faults script.new) }
+    ensures later { S.faults script.old ≤ S.faults script.new }
 {
     let mut text = Vec::new(alloc);
     let mut chunk = [0u8; CHUNK];

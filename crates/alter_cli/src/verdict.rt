@@ -7,7 +7,9 @@ pub enum Refusal {
     NoSuchTable,
     /// The table has a column of the name.
     ColumnTaken,
-    /// The command is not served yet.
+    /// The table has 2000 columns or more.
+    TooManyColumns,
+    /// The rows have no room on page 1, and no other page is served yet.
     Unbuilt,
 }
 

@@ -74,10 +74,10 @@ impl<R: Files<File = File> + AllocGlobal + Drop> Disk for FileDisk<R> {
         self.was_called = true;
         self.is_open = false;
         let journal_name = journal_name(self.rt.alloc(), name)?;
-        let db = open_file(&self.rt, name, false);
-        self.db = Some(counted(db, &mut self.read_faults)?);
+        let db = counted(open_file(&self.rt, name, false), &mut self.read_faults)?;
         let journal = open_file(&self.rt, journal_name.as_str(), true);
         self.journal = Some(counted(journal, &mut self.read_faults)?);
+        self.db = Some(db);
         self.is_open = true;
         Ok(())
     }

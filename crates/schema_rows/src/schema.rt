@@ -22,7 +22,7 @@ pub struct SchemaRow {
     pub text: Bytes,
 }
 
-/// The row of this rowid, or `None` where the payload is no record of a table's row.
+/// The row of this rowid, or `None` where the payload is no record of a table's row with a root below 2^31.
 pub fn read_schema_row(
     alloc: Global,
     rowid: u32,
@@ -123,7 +123,8 @@ impl SchemaRow {
         requires name { length self.now.name < 2 ^ 40 }
         requires table { length self.now.table < 2 ^ 40 }
         requires text { length self.now.text < 2 ^ 40 }
-        ensures { IfOk result (λ bytes. bytes ≡ spec.row_record self.now) }
+        ensures written { IfOk result (λ bytes. bytes ≡ spec.row_record self.now) }
+        ensures is_record { IfOk result (λ bytes. IsRecord bytes (spec.row_values self.now)) }
     {
         let types = self.types(alloc)?;
         let mut bytes = Vec::new(alloc);

@@ -1,5 +1,6 @@
 //! Files with any number of tables, and scripts of any number of commands.
 use crate::tests::Given;
+use alter_disk::ListSink;
 use std::alloc::Global;
 use std::test::Fail;
 
@@ -349,4 +350,71 @@ fn a_script_has_at_most_ten_thousand_commands(rt: HostRuntime) -> Result<(), Fai
         fails: &[],
     };
     given.gives(&rt, rt.alloc(), 2, b"script 0 unbuilt\n", old.as_slice())
+}
+
+/// Adds the number as a varint of three bytes (fileformat2.html, "B-tree Cell Format").
+fn push_three(number: usize, bytes: &mut Vec<u8>) -> Result<(), Fail> {
+    bytes.push(u8::try_from(number / 16384 + 128)?)?;
+    bytes.push(u8::try_from(number / 128 % 128 + 128)?)?;
+    bytes.push(u8::try_from(number % 128)?)?;
+    Ok(())
+}
+
+/// A database of two pages of 65536 bytes and one table `t` with the columns c1, c2 and so on up to this
+/// number, from 1000 to 2000.
+fn wide_database(alloc: Global, columns: u32) -> Result<Vec<u8>, Fail> {
+    let mut text = Vec::from_slice(alloc, b"CREATE TABLE t(c1")?;
+    for number in 2..columns.checked_add(1).ok_or("many columns")? {
+        text.extend_from_slice(format!(in alloc; ",c{number}")?.as_bytes())?;
+    }
+    text.push(b')')?;
+    let serial = text.len().checked_mul(2).ok_or("a long text")?;
+    let mut payload = Vec::from_slice(alloc, &[8, 23, 15, 15, 1])?;
+    push_three(serial.checked_add(13).ok_or("a long text")?, &mut payload)?;
+    payload.extend_from_slice(b"tablett\x02")?;
+    payload.extend_from_slice(text.as_slice())?;
+    let mut cell = Vec::new(alloc);
+    push_three(payload.len(), &mut cell)?;
+    cell.push(1)?;
+    cell.extend_from_slice(payload.as_slice())?;
+    let start = 65536usize.checked_sub(cell.len()).ok_or("a long text")?;
+    let place = u16::try_from(start)?.to_be_bytes();
+    let mut bytes = database(alloc, 0, &[T])?;
+    bytes.truncate(100);
+    bytes[16] = 0;
+    bytes[17] = 1;
+    bytes.extend_from_slice(&[13, 0, 0, 0, 1, place[0], place[1], 0, place[0], place[1]])?;
+    bytes.resize(start, 0)?;
+    bytes.extend_from_slice(cell.as_slice())?;
+    bytes.extend_from_slice(&[13, 0, 0, 0, 0, 0, 0, 0])?;
+    bytes.resize(131072, 0)?;
+    Ok(bytes)
+}
+
+#[test]
+fn a_table_has_at_most_2000_columns(rt: HostRuntime) -> Result<(), Fail> {
+    let old = wide_database(rt.alloc(), 2000)?;
+    let given = Given {
+        db: old.as_slice(),
+        journal: &[],
+        script: b"ALTER TABLE t ADD c7; ALTER TABLE t ADD d",
+        fails: &[],
+    };
+    let lines = b"1 refused column-taken\n2 refused too-many-columns\n";
+    given.gives(&rt, rt.alloc(), 1, lines, old.as_slice())?;
+    let old = wide_database(rt.alloc(), 1999)?;
+    let given = Given {
+        db: old.as_slice(),
+        journal: &[],
+        script: b"ALTER TABLE t ADD d; ALTER TABLE t ADD e",
+        fails: &[],
+    };
+    let mut out = ListSink::new(rt.alloc(), 99, &[])?;
+    let ended = given.run(rt.alloc(), &mut out)?;
+    assert_eq!(rt;
+        out.written(),
+        b"1 ok\n2 refused too-many-columns\n".as_slice()
+    );
+    assert_eq!(rt; ended.status.code(), 1);
+    Ok(())
 }

@@ -68,7 +68,7 @@ fn words_of(alloc: Global, file: &str) -> Result<Vec<String>, AllocError>
 
 impl Given<'_> {
     /// Runs `sqlalter a.db` in memory.
-    fn run(&self, alloc: Global, out: &mut ListSink) -> Result<Ended<MemoryDisk>, AllocError> {
+    pub fn run(&self, alloc: Global, out: &mut ListSink) -> Result<Ended<MemoryDisk>, AllocError> {
         let room = self.db.len().max(self.journal.len());
         let disk = MemoryDisk::new(alloc, "a.db", self.db, self.journal, room, 99, self.fails)?;
         let mut script = ListSource::new(alloc, self.script)?;

@@ -16,5 +16,5 @@ loop-row-preserved g c =
           (c.in_ok-has_root.ensures.there c.if-not-branch.false);
       told = roots_more (files c.args.disk.now) (files at.disk) sizes rows at.row-index c.row-item.result c.in_ok-has_root.field-0 at.invariant.reads.files
           c.loop-row-test.true c.row-item.is c.if-not-branch.false at.invariant.told c.in_ok-has_root.ensures.told;
-      reads = reads_again files reads writes c.args.disk.now at.disk c.has_root.new.disk at.invariant.reads c.in_ok-has_root.ensures.reads;
+      reads = reads_again files g.D.Disk.label g.D.Disk.called reads writes c.args.disk.now at.disk c.has_root.new.disk at.invariant.reads c.in_ok-has_root.ensures.reads;
     }

@@ -1,7 +1,8 @@
-use Rattle.std.proofs.Common.{ℕ, List, subst}
+use Rattle.std.proofs.Common.{◌∙◌, ℕ, List, arith, subst}
 use Rattle.alter_disk.specs.Faults.{Rose}
 use Rattle.plain_sql.specs.declared.script.Command.{Command}
 use Rattle.alter_cli.proofs.PerformLemmas.{Run_left, no_script, no_form, commands_ran}
+use Rattle.alter_cli.proofs.StatusLemmas.{can_run_told, err_cause, form_cause, ok_able, script_cause}
 use Rattle.alter_cli.proofs.perform.perform.Goals as goal
 
 pub returns-in-Err-clause-told : goal.returns-in-Err-clause-told
@@ -20,8 +21,8 @@ returns-in-Err-open_form-clause-told g c =
     (Rose (g.D.Disk.write_faults c.args.disk.now) (g.D.Disk.write_faults c.open_form.new.disk))
     (Rose (g.K.Sink.faults c.args.out.now) (g.K.Sink.faults c.args.out.now))
     (g.S.Source.left c.args.script.now) (g.S.Source.left c.read_commands.new.script) (g.D.Disk.files c.args.disk.now) (g.D.Disk.files c.open_form.new.disk)
-    (g.K.Sink.written c.args.out.now) (g.D.Disk.called c.open_form.new.disk) c.in-Ok.commands.items c.in-Err-open_form.stop c.in-Ok.ensures.found
-    c.in-Err-open_form.ensures.reads.files c.in-Err-open_form.ensures.stop
+    (g.K.Sink.written c.args.out.now) (g.D.Disk.called c.open_form.new.disk) c.in-Ok.commands.items c.in-Err-open_form.stop
+    c.in-Err-open_form.ensures.reads.called c.in-Ok.ensures.found c.in-Err-open_form.ensures.reads.files c.in-Err-open_form.ensures.stop
 
 pub returns-clause-told : goal.returns-clause-told
 returns-clause-told g c =
@@ -37,5 +38,45 @@ returns-clause-told g c =
     commands_ran source read write sunk
     (g.S.Source.left c.args.script.now) (g.S.Source.left c.read_commands.new.script) (g.D.Disk.files c.args.disk.now) (g.D.Disk.files c.open_form.new.disk)
     (g.D.Disk.files c.run_commands.new.disk) (g.K.Sink.written c.args.out.now) (g.K.Sink.written c.run_commands.new.out) (g.D.Disk.called c.run_commands.new.disk)
-    c.in-Ok.commands.items c.in-Ok-open_form.form c.run_commands.result c.in-Ok.ensures.found c.in-Ok-open_form.ensures.found
+    c.in-Ok.commands.items c.in-Ok-open_form.form c.run_commands.result
+    (c.run_commands.ensures.rest.called ∙ c.in-Ok-open_form.ensures.reads.called) c.in-Ok.ensures.found c.in-Ok-open_form.ensures.found
     c.in-Ok-open_form.ensures.reads.files (subst (λ n. left n c.in-Ok.commands.items) c.in-Ok-open_form.ensures.reads.writes_stay same)
+
+pub returns-in-Err-clause-cause : goal.returns-in-Err-clause-cause
+returns-in-Err-clause-cause g c =
+    script_cause (Rose (g.S.Source.faults c.args.script.now) (g.S.Source.faults c.read_commands.new.script))
+    (Rose (g.D.Disk.read_faults c.args.disk.now) (g.D.Disk.read_faults c.args.disk.now))
+    (Rose (g.D.Disk.write_faults c.args.disk.now) (g.D.Disk.write_faults c.args.disk.now))
+    (Rose (g.K.Sink.faults c.args.out.now) (g.K.Sink.faults c.args.out.now))
+    (g.S.Source.left c.args.script.now) (g.S.Source.left c.read_commands.new.script) (g.D.Disk.files c.args.disk.now) c.in-Err.stop c.in-Err.ensures.stop
+
+pub returns-in-Err-open_form-clause-cause : goal.returns-in-Err-open_form-clause-cause
+returns-in-Err-open_form-clause-cause g c =
+    form_cause (Rose (g.S.Source.faults c.args.script.now) (g.S.Source.faults c.read_commands.new.script))
+    (Rose (g.D.Disk.read_faults c.args.disk.now) (g.D.Disk.read_faults c.open_form.new.disk))
+    (Rose (g.D.Disk.write_faults c.args.disk.now) (g.D.Disk.write_faults c.open_form.new.disk))
+    (Rose (g.K.Sink.faults c.args.out.now) (g.K.Sink.faults c.args.out.now))
+    (g.S.Source.left c.args.script.now) (g.S.Source.left c.read_commands.new.script) (g.D.Disk.files c.args.disk.now) c.in-Ok.commands.items
+    c.in-Err-open_form.stop c.in-Ok.ensures.found c.in-Err-open_form.ensures.stop
+
+pub returns-clause-able : goal.returns-clause-able
+returns-clause-able g c =
+    let text = g.S.Source.left c.args.script.now in
+    let files = g.D.Disk.files c.args.disk.now in
+    ok_able text files c.run_commands.result
+    (can_run_told text (g.S.Source.left c.read_commands.new.script) files c.in-Ok.commands.items c.in-Ok-open_form.form c.in-Ok.ensures.found
+    c.in-Ok-open_form.ensures.found)
+
+pub returns-clause-cause : goal.returns-clause-cause
+returns-clause-cause g c =
+    let text = g.S.Source.left c.args.script.now in
+    let files = g.D.Disk.files c.args.disk.now in
+    err_cause (Rose (g.S.Source.faults c.args.script.now) (g.S.Source.faults c.read_commands.new.script))
+    (Rose (g.D.Disk.read_faults c.args.disk.now) (g.D.Disk.read_faults c.run_commands.new.disk))
+    (Rose (g.D.Disk.write_faults c.open_form.new.disk) (g.D.Disk.write_faults c.run_commands.new.disk))
+    (Rose (g.D.Disk.write_faults c.args.disk.now) (g.D.Disk.write_faults c.run_commands.new.disk))
+    (Rose (g.K.Sink.faults c.args.out.now) (g.K.Sink.faults c.run_commands.new.out)) text files c.run_commands.result
+    (λ r. omega (arith, c.in-Ok-open_form.ensures.reads.writes_stay, r))
+    (can_run_told text (g.S.Source.left c.read_commands.new.script) files c.in-Ok.commands.items c.in-Ok-open_form.form c.in-Ok.ensures.found
+    c.in-Ok-open_form.ensures.found)
+    c.run_commands.ensures.cause

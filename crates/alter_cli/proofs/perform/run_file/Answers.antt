@@ -1,6 +1,8 @@
-use Rattle.std.proofs.Common.{true, false}
+use Rattle.std.proofs.Common.{◌⊎◌, inl, inr, refl, true, false}
 use Rattle.alter_disk.specs.Faults.{Rose}
 use Rattle.alter_cli.proofs.FinishLemmas.{performed_told_ok, performed_told_stop, rose_later, rose_before}
+use Rattle.alter_cli.specs.declared.status.Status.TheVariants as statuses
+use Rattle.alter_cli.proofs.StatusLemmas.{file_ran, file_stopped, run_ran, run_stopped, script_stopped}
 use Rattle.alter_cli.proofs.perform.run_file.Goals as goal
 
 pub returns-in-Ok-true-clause-performed : goal.returns-in-Ok-true-clause-performed
@@ -35,5 +37,61 @@ returns-in-Err-clause-performed g c =
     (g.D.Disk.files c.args.disk.now) (g.D.Disk.files c.perform.new.disk)
     (g.K.Sink.written c.args.out.now) (g.K.Sink.written c.perform.new.out) (g.K.Sink.written c.stopped.new.out)
     (λ r. rose_later (g.K.Sink.faults c.args.out.now) (g.K.Sink.faults c.perform.new.out) (g.K.Sink.faults c.stopped.new.out) r c.stopped.ensures.later)
-    (λ r. rose_before (g.K.Sink.faults c.args.out.now) (g.K.Sink.faults c.perform.new.out) (g.K.Sink.faults c.stopped.new.out) c.in-Err.ensures.later r)
+    (λ r. rose_before (g.K.Sink.faults c.args.out.now) (g.K.Sink.faults c.perform.new.out) (g.K.Sink.faults c.stopped.new.out) c.in-Err.ensures.later.3 r)
     c.in-Err.ensures.told c.stopped.ensures.told
+
+pub returns-in-Ok-true-clause-file : goal.returns-in-Ok-true-clause-file
+returns-in-Ok-true-clause-file g c =
+    file_ran (Rose (g.S.Source.faults c.args.script.now) (g.S.Source.faults c.perform.new.script) ⊎ Rose (g.D.Disk.read_faults c.args.disk.now) (g.D.Disk.read_faults c.perform.new.disk) ⊎ Rose (g.K.Sink.faults c.args.out.now) (g.K.Sink.faults c.perform.new.out))
+    (g.S.Source.left c.args.script.now) (g.D.Disk.files c.args.disk.now) statuses.Done (inl refl) c.in-Ok-true.ensures.able
+
+pub returns-in-Ok-true-clause-run : goal.returns-in-Ok-true-clause-run
+returns-in-Ok-true-clause-run g c =
+    run_ran (Rose (g.S.Source.faults c.args.script.now) (g.S.Source.faults c.perform.new.script) ⊎ Rose (g.D.Disk.read_faults c.args.disk.now) (g.D.Disk.read_faults c.perform.new.disk) ⊎ Rose (g.D.Disk.write_faults c.args.disk.now) (g.D.Disk.write_faults c.perform.new.disk) ⊎ Rose (g.K.Sink.faults c.args.out.now) (g.K.Sink.faults c.perform.new.out))
+    (g.S.Source.left c.args.script.now) (g.D.Disk.files c.args.disk.now) statuses.Done (inl refl) c.in-Ok-true.ensures.able
+
+pub returns-in-Ok-false-clause-file : goal.returns-in-Ok-false-clause-file
+returns-in-Ok-false-clause-file g c =
+    file_ran (Rose (g.S.Source.faults c.args.script.now) (g.S.Source.faults c.perform.new.script) ⊎ Rose (g.D.Disk.read_faults c.args.disk.now) (g.D.Disk.read_faults c.perform.new.disk) ⊎ Rose (g.K.Sink.faults c.args.out.now) (g.K.Sink.faults c.perform.new.out))
+    (g.S.Source.left c.args.script.now) (g.D.Disk.files c.args.disk.now) statuses.Refused (inr refl) c.in-Ok-false.ensures.able
+
+pub returns-in-Ok-false-clause-run : goal.returns-in-Ok-false-clause-run
+returns-in-Ok-false-clause-run g c =
+    run_ran (Rose (g.S.Source.faults c.args.script.now) (g.S.Source.faults c.perform.new.script) ⊎ Rose (g.D.Disk.read_faults c.args.disk.now) (g.D.Disk.read_faults c.perform.new.disk) ⊎ Rose (g.D.Disk.write_faults c.args.disk.now) (g.D.Disk.write_faults c.perform.new.disk) ⊎ Rose (g.K.Sink.faults c.args.out.now) (g.K.Sink.faults c.perform.new.out))
+    (g.S.Source.left c.args.script.now) (g.D.Disk.files c.args.disk.now) statuses.Refused (inr refl) c.in-Ok-false.ensures.able
+
+pub returns-in-Err-clause-script : goal.returns-in-Err-clause-script
+returns-in-Err-clause-script g c =
+    script_stopped (Rose (g.S.Source.faults c.args.script.now) (g.S.Source.faults c.perform.new.script)) (Rose (g.D.Disk.read_faults c.args.disk.now) (g.D.Disk.read_faults c.perform.new.disk))
+    (Rose (g.D.Disk.write_faults c.args.disk.now) (g.D.Disk.write_faults c.perform.new.disk))
+    (Rose (g.K.Sink.faults c.args.out.now) (g.K.Sink.faults c.perform.new.out))
+    (Rose (g.K.Sink.faults c.perform.new.out) (g.K.Sink.faults c.stopped.new.out))
+    (Rose (g.K.Sink.faults c.args.out.now) (g.K.Sink.faults c.stopped.new.out))
+    (g.S.Source.left c.args.script.now) (g.D.Disk.files c.args.disk.now) c.in-Err.stop c.stopped.result
+    (λ r. rose_later (g.K.Sink.faults c.args.out.now) (g.K.Sink.faults c.perform.new.out) (g.K.Sink.faults c.stopped.new.out) r c.stopped.ensures.later)
+    (λ r. rose_before (g.K.Sink.faults c.args.out.now) (g.K.Sink.faults c.perform.new.out) (g.K.Sink.faults c.stopped.new.out) c.in-Err.ensures.later.3 r)
+    c.in-Err.ensures.cause c.stopped.ensures.status
+
+pub returns-in-Err-clause-file : goal.returns-in-Err-clause-file
+returns-in-Err-clause-file g c =
+    file_stopped (Rose (g.S.Source.faults c.args.script.now) (g.S.Source.faults c.perform.new.script)) (Rose (g.D.Disk.read_faults c.args.disk.now) (g.D.Disk.read_faults c.perform.new.disk))
+    (Rose (g.D.Disk.write_faults c.args.disk.now) (g.D.Disk.write_faults c.perform.new.disk))
+    (Rose (g.K.Sink.faults c.args.out.now) (g.K.Sink.faults c.perform.new.out))
+    (Rose (g.K.Sink.faults c.perform.new.out) (g.K.Sink.faults c.stopped.new.out))
+    (Rose (g.K.Sink.faults c.args.out.now) (g.K.Sink.faults c.stopped.new.out))
+    (g.S.Source.left c.args.script.now) (g.D.Disk.files c.args.disk.now) c.in-Err.stop c.stopped.result
+    (λ r. rose_later (g.K.Sink.faults c.args.out.now) (g.K.Sink.faults c.perform.new.out) (g.K.Sink.faults c.stopped.new.out) r c.stopped.ensures.later)
+    (λ r. rose_before (g.K.Sink.faults c.args.out.now) (g.K.Sink.faults c.perform.new.out) (g.K.Sink.faults c.stopped.new.out) c.in-Err.ensures.later.3 r)
+    c.in-Err.ensures.cause c.stopped.ensures.status
+
+pub returns-in-Err-clause-run : goal.returns-in-Err-clause-run
+returns-in-Err-clause-run g c =
+    run_stopped (Rose (g.S.Source.faults c.args.script.now) (g.S.Source.faults c.perform.new.script)) (Rose (g.D.Disk.read_faults c.args.disk.now) (g.D.Disk.read_faults c.perform.new.disk))
+    (Rose (g.D.Disk.write_faults c.args.disk.now) (g.D.Disk.write_faults c.perform.new.disk))
+    (Rose (g.K.Sink.faults c.args.out.now) (g.K.Sink.faults c.perform.new.out))
+    (Rose (g.K.Sink.faults c.perform.new.out) (g.K.Sink.faults c.stopped.new.out))
+    (Rose (g.K.Sink.faults c.args.out.now) (g.K.Sink.faults c.stopped.new.out))
+    (g.S.Source.left c.args.script.now) (g.D.Disk.files c.args.disk.now) c.in-Err.stop c.stopped.result
+    (λ r. rose_later (g.K.Sink.faults c.args.out.now) (g.K.Sink.faults c.perform.new.out) (g.K.Sink.faults c.stopped.new.out) r c.stopped.ensures.later)
+    (λ r. rose_before (g.K.Sink.faults c.args.out.now) (g.K.Sink.faults c.perform.new.out) (g.K.Sink.faults c.stopped.new.out) c.in-Err.ensures.later.3 r)
+    c.in-Err.ensures.cause c.stopped.ensures.status

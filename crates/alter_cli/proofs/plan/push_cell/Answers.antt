@@ -21,7 +21,7 @@ pub returns-clause-whole : goal.returns-clause-whole
 returns-clause-whole c = λ yes.
     let row = c.args.row.now in
     let usable = c.args.usable in
-    let is : c.in_ok-record.record ≡ row_record row = c.in_ok-record.ensures in
+    let is : c.in_ok-record.record ≡ row_record row = c.in_ok-record.ensures.written in
     let local : length (row_record row) ≤ usable - 35 = omega (arith, ap length is) in
     pushed usable row c.args.cells.now.items c.push.new.self.items c.in_ok-cell.field-0 c.requires.small (omega arith) local
     c.in_ok-cell.ensures c.in_ok-push.ensures.items c.requires.whole

@@ -14,7 +14,8 @@ loop-command-init g c = record {
   reached = reached_none (g.D.Disk.files c.args.disk.now) (g.K.Sink.written c.args.out.now) c.args.form;
   ready = c.requires.ready;
   number = refl;
-  reads = refl;
+  telling = refl;
+  rest = record { label = refl; called = refl; opened = refl; other = refl };
   writes = omega arith;
   sink = omega arith;
 }
@@ -72,7 +73,13 @@ loop-command-preserved g c =
           c.loop-command.invariant.reached;
       ready = c.in-Ok.ensures.ready;
       number = ap (λ n. n + 1) c.loop-command.invariant.number;
-      reads = c.run_command.ensures.reads ∙ c.loop-command.invariant.reads;
+      telling = c.run_command.ensures.telling ∙ c.loop-command.invariant.telling;
+      rest = record {
+        label = c.run_command.ensures.rest.label ∙ c.loop-command.invariant.rest.label;
+        called = c.run_command.ensures.rest.called ∙ c.loop-command.invariant.rest.called;
+        opened = c.run_command.ensures.rest.opened ∙ c.loop-command.invariant.rest.opened;
+        other = c.run_command.ensures.rest.other ∙ c.loop-command.invariant.rest.other;
+      };
       writes = omega (arith, c.loop-command.invariant.writes, c.run_command.ensures.writes);
       sink = omega (arith, c.loop-command.invariant.sink, c.run_command.ensures.sink);
     }

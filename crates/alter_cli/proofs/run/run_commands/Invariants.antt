@@ -1,4 +1,5 @@
-use Rattle.std.proofs.Common.{◌≡◌, ◌≤◌, take}
+use Rattle.std.proofs.Common.{◌≡◌, ◌≤◌, is_some, take}
+use Rattle.alter_disk.specs.Rest.{KeepsRest}
 use Rattle.alter_cli.specs.Ending.{OfForm}
 use Rattle.alter_cli.specs.Served.{IsReady}
 use Rattle.alter_cli.proofs.Reached.{Reached}
@@ -11,7 +12,8 @@ invariant-loop-command g l = record {
       (λ image given. Reached image (take l.command-index l.commands) given (g.D.Disk.files l.disk) (g.K.Sink.written l.out) l.form l.all_done);
   ready : IsReady l.form;
   number : l.number ≡ l.command-index;
-  reads : g.D.Disk.read_faults l.disk ≡ g.D.Disk.read_faults l.fn.disk;
+  telling : is_some (g.D.Disk.files l.disk) ≡ is_some (g.D.Disk.files l.fn.disk);
+  rest : KeepsRest g.D.Disk.label g.D.Disk.called g.D.Disk.opened g.D.Disk.read_faults l.fn.disk l.disk;
   writes : g.D.Disk.write_faults l.fn.disk ≤ g.D.Disk.write_faults l.disk;
   sink : g.K.Sink.faults l.fn.out ≤ g.K.Sink.faults l.out;
 }

@@ -1,0 +1,201 @@
+-- Each status comes exactly where it should.
+use Rattle.std.proofs.Common.{◌≡◌, ◌≢◌, ℕ, Bool, ◌⊎◌, inl, inr, Option, Some, None, Result, Ok, Err, OnOk, IfErr, List, sym, ◌∙◌, arith}
+use Rattle.alter_disk.specs.Changes.{IfTold}
+use Rattle.alter_disk.specs.Files.{Files}
+use Rattle.plain_sql.specs.declared.script.Command.{Command}
+use Rattle.alter_cli.specs.declared.form.Form.{Form}
+use Rattle.alter_cli.specs.declared.status.Status.{Status}
+use Rattle.alter_cli.specs.declared.status.Status.TheVariants as statuses
+use Rattle.alter_cli.specs.declared.stop.Stop.{Stop}
+use Rattle.alter_cli.specs.declared.stop.Stop.TheVariants.{Misused, TooLong, Unspelled, Unread, Unserved, Unreadable, Unwritten, Unprinted, Memory}
+use Rattle.alter_cli.specs.Served.{AreOfForm}
+use Rattle.alter_cli.specs.Ending.{IsRunStop, NoForm, NoScript, stop_status}
+use Rattle.alter_cli.specs.Causes.{CanRun, CanRunTold, IsCaused, IsExactly, IsFileRefused, IsRunStatus, IsScriptTold, IsUnserved}
+use Rattle.alter_cli.proofs.PerformLemmas.{Commands_read}
+
+-- what was read is a script
+pub script_told : (text left : Option (List ℕ)) (commands : List Command) → Commands_read text left commands → IsScriptTold text
+script_told None left commands is = tt
+script_told (Some t) left commands is = (commands, is.0)
+
+-- what was read can be run
+pub can_run_told : (text left : Option (List ℕ)) (files : Option Files) (commands : List Command) (form : Form) → Commands_read text left commands
+    → IfTold files (λ f. AreOfForm f form) → CanRunTold text files
+can_run_told None left files commands form is of = record { script = tt; both = tt }
+can_run_told (Some t) left None commands form is of = record { script = (commands, is.0); both = tt }
+can_run_told (Some t) left (Some f) commands form is of = record {
+  script = (commands, is.0);
+  both = record {
+    commands = commands;
+    served = is.0;
+    image = of.image;
+    opens = record { files = of.are; tables = form.tables.items; form = of.of.first };
+  };
+}
+
+-- why there was no script
+pub script_cause : (Source Read Write Sunk : Type 0) (text left : Option (List ℕ)) (files : Option Files) (stop : Stop) → NoScript Source text left stop
+    → IsCaused Source Read Write Sunk text files stop
+script_cause Source Read Write Sunk None left files TooLong why = tt
+script_cause Source Read Write Sunk (Some t) left files TooLong why = λ commands served. absurd (omega (arith, why.0, served.short))
+script_cause Source Read Write Sunk None left files Unspelled why = tt
+script_cause Source Read Write Sunk (Some t) left files Unspelled why = λ commands served. why.1 commands served.script
+script_cause Source Read Write Sunk text left files Unread why = why
+script_cause Source Read Write Sunk text left files Memory why = tt
+script_cause Source Read Write Sunk text left files stop why = absurd why
+
+-- the file that was refused
+refused_told : (text left : Option (List ℕ)) (files : Option Files) (commands : List Command) → Commands_read text left commands
+    → NoForm (Unit {0}) files Unserved → IfTold text (λ t. IfTold files (IsFileRefused t))
+refused_told None left files commands is why = tt
+refused_told (Some t) left None commands is why = tt
+refused_told (Some t) left (Some f) commands is why = record { commands = commands; served = is.0; unserved = why }
+
+-- why there was no form
+pub form_cause : (Source Read Write Sunk : Type 0) (text left : Option (List ℕ)) (files : Option Files) (commands : List Command) (stop : Stop)
+    → Commands_read text left commands → NoForm Read files stop → IsCaused Source Read Write Sunk text files stop
+form_cause Source Read Write Sunk text left files commands Unserved is why =
+    (script_told text left commands is, refused_told text left files commands is why)
+form_cause Source Read Write Sunk text left files commands Unreadable is why = (why, script_told text left commands is)
+form_cause Source Read Write Sunk text left files commands Memory is why = tt
+form_cause Source Read Write Sunk text left files commands stop is why = absurd why
+
+-- why the run of the commands stopped
+pub stop_cause : (Source Read Part Write Sunk : Type 0) (text : Option (List ℕ)) (files : Option Files) (stop : Stop) → (Part → Write)
+    → CanRunTold text files → IsRunStop Part Sunk stop → IsCaused Source Read Write Sunk text files stop
+stop_cause Source Read Part Write Sunk text files Unwritten wrote can why = (wrote why, can)
+stop_cause Source Read Part Write Sunk text files Unprinted wrote can why = (why, can)
+stop_cause Source Read Part Write Sunk text files Memory wrote can why = tt
+stop_cause Source Read Part Write Sunk text files stop wrote can why = absurd why
+
+-- a run of the commands that did not stop was one of what can be run
+pub ok_able : (text : Option (List ℕ)) (files : Option Files) (result : Result Bool Stop) → CanRunTold text files → OnOk result (CanRunTold text files)
+ok_able text files (Ok all_done) can = can
+ok_able text files (Err stop) can = tt
+
+-- why the run of the commands stopped, if it did
+pub err_cause : (Source Read Part Write Sunk : Type 0) (text : Option (List ℕ)) (files : Option Files) (result : Result Bool Stop) → (Part → Write)
+    → CanRunTold text files → IfErr result (IsRunStop Part Sunk) → IfErr result (IsCaused Source Read Write Sunk text files)
+err_cause Source Read Part Write Sunk text files (Ok all_done) wrote can why = tt
+err_cause Source Read Part Write Sunk text files (Err stop) wrote can why = stop_cause Source Read Part Write Sunk text files stop wrote can why
+
+-- a stop and its last line: the status of the stop, or a fault by the line
+abbrev pub IsStopStatus : Type 0 → Stop → Status → Type 0
+IsStopStatus Part stop status = (status ≡ stop_status stop) ⊎ ((status ≡ statuses.Fault) × Part)
+
+-- a status that is another comes under no condition, and a fault or want of memory may come in its place
+other_status : (Wanted : Status → Type 0) (Condition Cause : Type 0) (status : Status) → (Wanted status → ⊥)
+    → (Condition → (status ≡ statuses.Memory) ⊎ ((status ≡ statuses.Fault) × Cause)) → IsExactly Wanted Condition Cause status
+other_status Wanted Condition Cause status never instead = record { only = λ w. absurd (never w); comes = λ c. inr (instead c) }
+
+-- a script's status, where the text is told
+script_at : (Source Read Write First Part Sunk : Type 0) (t : List ℕ) (files : Option Files) (stop : Stop) (status : Status) → (First → Sunk)
+    → IsCaused Source Read Write First (Some t) files stop → status ≡ stop_status stop
+    → IsExactly (λ s. s ≡ statuses.Script) (IsUnserved t) (Source ⊎ Sunk) status
+script_at Source Read Write First Part Sunk t files TooLong status first why same = record { only = λ _. why; comes = λ _. inl same }
+script_at Source Read Write First Part Sunk t files Unspelled status first why same = record { only = λ _. why; comes = λ _. inl same }
+script_at Source Read Write First Part Sunk t files Unread status first why same =
+    other_status _ _ _ status (λ e. cc) (λ _. inr (same, inl why))
+script_at Source Read Write First Part Sunk t files Unserved status first why same =
+    other_status _ _ _ status (λ e. cc) (λ un. absurd (un why.0.0 why.0.1))
+script_at Source Read Write First Part Sunk t files Unreadable status first why same =
+    other_status _ _ _ status (λ e. cc) (λ un. absurd (un why.1.0 why.1.1))
+script_at Source Read Write First Part Sunk t files Unwritten status first why same =
+    other_status _ _ _ status (λ e. cc) (λ un. absurd (un why.1.script.0 why.1.script.1))
+script_at Source Read Write First Part Sunk t files Unprinted status first why same =
+    other_status _ _ _ status (λ e. cc) (λ _. inr (same, inr (first why.0)))
+script_at Source Read Write First Part Sunk t files Memory status first why same = other_status _ _ _ status (λ e. cc) (λ _. inl same)
+script_at Source Read Write First Part Sunk t files Misused status first why same = absurd why
+
+-- a call that stopped ends with a script's status exactly where it should
+pub script_stopped : (Source Read Write First Part Sunk : Type 0) (text : Option (List ℕ)) (files : Option Files) (stop : Stop) (status : Status)
+    → (First → Sunk) → (Part → Sunk) → IsCaused Source Read Write First text files stop → IsStopStatus Part stop status
+    → IfTold text (λ t. IsExactly (λ s. s ≡ statuses.Script) (IsUnserved t) (Source ⊎ Sunk) status)
+script_stopped Source Read Write First Part Sunk None files stop status first later why is = tt
+script_stopped Source Read Write First Part Sunk (Some t) files stop status first later why (inl same) =
+    script_at Source Read Write First Part Sunk t files stop status first why same
+script_stopped Source Read Write First Part Sunk (Some t) files stop status first later why (inr fault) =
+    other_status _ _ _ status (λ e. let same = fault.0 in cc) (λ _. inr (fault.0, inr (later fault.1)))
+
+-- a file's status, where text and files are told
+file_at : (Source Read Write First Sunk : Type 0) (t : List ℕ) (f : Files) (stop : Stop) (status : Status) → (First → Sunk)
+    → IsCaused Source Read Write First (Some t) (Some f) stop → status ≡ stop_status stop
+    → IsExactly (λ s. s ≡ statuses.File) (IsFileRefused t f) (Source ⊎ Read ⊎ Sunk) status
+file_at Source Read Write First Sunk t f TooLong status first why same =
+    other_status _ _ _ status (λ e. cc) (λ r. absurd (why r.commands r.served))
+file_at Source Read Write First Sunk t f Unspelled status first why same =
+    other_status _ _ _ status (λ e. cc) (λ r. absurd (why r.commands r.served))
+file_at Source Read Write First Sunk t f Unread status first why same = other_status _ _ _ status (λ e. cc) (λ _. inr (same, inl why))
+file_at Source Read Write First Sunk t f Unserved status first why same = record { only = λ _. why.1; comes = λ _. inl same }
+file_at Source Read Write First Sunk t f Unreadable status first why same =
+    other_status _ _ _ status (λ e. cc) (λ _. inr (same, inr (inl why.0)))
+file_at Source Read Write First Sunk t f Unwritten status first why same =
+    other_status _ _ _ status (λ e. cc) (λ r. absurd (r.unserved why.1.both.image why.1.both.opens))
+file_at Source Read Write First Sunk t f Unprinted status first why same =
+    other_status _ _ _ status (λ e. cc) (λ _. inr (same, inr (inr (first why.0))))
+file_at Source Read Write First Sunk t f Memory status first why same = other_status _ _ _ status (λ e. cc) (λ _. inl same)
+file_at Source Read Write First Sunk t f Misused status first why same = absurd why
+
+-- a call that stopped ends with a file's status exactly where it should
+pub file_stopped : (Source Read Write First Part Sunk : Type 0) (text : Option (List ℕ)) (files : Option Files) (stop : Stop) (status : Status)
+    → (First → Sunk) → (Part → Sunk) → IsCaused Source Read Write First text files stop → IsStopStatus Part stop status
+    → IfTold text (λ t. IfTold files (λ f. IsExactly (λ s. s ≡ statuses.File) (IsFileRefused t f) (Source ⊎ Read ⊎ Sunk) status))
+file_stopped Source Read Write First Part Sunk None files stop status first later why is = tt
+file_stopped Source Read Write First Part Sunk (Some t) None stop status first later why is = tt
+file_stopped Source Read Write First Part Sunk (Some t) (Some f) stop status first later why (inl same) =
+    file_at Source Read Write First Sunk t f stop status first why same
+file_stopped Source Read Write First Part Sunk (Some t) (Some f) stop status first later why (inr fault) =
+    other_status _ _ _ status (λ e. let same = fault.0 in cc) (λ _. inr (fault.0, inr (inr (later fault.1))))
+
+-- a status that is none of a run
+pub no_run : (status other : Status) → status ≡ other → other ≢ statuses.Done → other ≢ statuses.Refused → IsRunStatus status → ⊥
+no_run status other same done refused (inl is) = done (sym same ∙ is)
+no_run status other same done refused (inr is) = refused (sym same ∙ is)
+
+-- a run's status, where text and files are told
+run_at : (Source Read Write First Sunk : Type 0) (t : List ℕ) (f : Files) (stop : Stop) (status : Status) → (First → Sunk)
+    → IsCaused Source Read Write First (Some t) (Some f) stop → status ≡ stop_status stop
+    → IsExactly IsRunStatus (CanRun t f) (Source ⊎ Read ⊎ Write ⊎ Sunk) status
+run_at Source Read Write First Sunk t f TooLong status first why same =
+    other_status _ _ _ status (no_run status _ same (λ e. cc) (λ e. cc)) (λ can. absurd (why can.commands can.served))
+run_at Source Read Write First Sunk t f Unspelled status first why same =
+    other_status _ _ _ status (no_run status _ same (λ e. cc) (λ e. cc)) (λ can. absurd (why can.commands can.served))
+run_at Source Read Write First Sunk t f Unread status first why same =
+    other_status _ _ _ status (no_run status _ same (λ e. cc) (λ e. cc)) (λ _. inr (same, inl why))
+run_at Source Read Write First Sunk t f Unserved status first why same =
+    other_status _ _ _ status (no_run status _ same (λ e. cc) (λ e. cc)) (λ can. absurd (why.1.unserved can.image can.opens))
+run_at Source Read Write First Sunk t f Unreadable status first why same =
+    other_status _ _ _ status (no_run status _ same (λ e. cc) (λ e. cc)) (λ _. inr (same, inr (inl why.0)))
+run_at Source Read Write First Sunk t f Unwritten status first why same =
+    other_status _ _ _ status (no_run status _ same (λ e. cc) (λ e. cc)) (λ _. inr (same, inr (inr (inl why.0))))
+run_at Source Read Write First Sunk t f Unprinted status first why same =
+    other_status _ _ _ status (no_run status _ same (λ e. cc) (λ e. cc)) (λ _. inr (same, inr (inr (inr (first why.0)))))
+run_at Source Read Write First Sunk t f Memory status first why same =
+    other_status _ _ _ status (no_run status _ same (λ e. cc) (λ e. cc)) (λ _. inl same)
+run_at Source Read Write First Sunk t f Misused status first why same = absurd why
+
+-- a call that stopped ends with a run's status exactly where it should
+pub run_stopped : (Source Read Write First Part Sunk : Type 0) (text : Option (List ℕ)) (files : Option Files) (stop : Stop) (status : Status)
+    → (First → Sunk) → (Part → Sunk) → IsCaused Source Read Write First text files stop → IsStopStatus Part stop status
+    → IfTold text (λ t. IfTold files (λ f. IsExactly IsRunStatus (CanRun t f) (Source ⊎ Read ⊎ Write ⊎ Sunk) status))
+run_stopped Source Read Write First Part Sunk None files stop status first later why is = tt
+run_stopped Source Read Write First Part Sunk (Some t) None stop status first later why is = tt
+run_stopped Source Read Write First Part Sunk (Some t) (Some f) stop status first later why (inl same) =
+    run_at Source Read Write First Sunk t f stop status first why same
+run_stopped Source Read Write First Part Sunk (Some t) (Some f) stop status first later why (inr fault) =
+    other_status _ _ _ status (no_run status statuses.Fault fault.0 (λ e. cc) (λ e. cc)) (λ _. inr (fault.0, inr (inr (inr (later fault.1)))))
+
+-- a run's status is none of a file
+pub file_ran : (Cause : Type 0) (text : Option (List ℕ)) (files : Option Files) (status : Status) → IsRunStatus status → CanRunTold text files
+    → IfTold text (λ t. IfTold files (λ f. IsExactly (λ s. s ≡ statuses.File) (IsFileRefused t f) Cause status))
+file_ran Cause None files status run can = tt
+file_ran Cause (Some t) None status run can = tt
+file_ran Cause (Some t) (Some f) status run can =
+    other_status _ _ _ status (λ e. no_run status statuses.File e (λ o. cc) (λ o. cc) run) (λ r. absurd (r.unserved can.both.image can.both.opens))
+
+-- a run's status comes where the script can be run
+pub run_ran : (Cause : Type 0) (text : Option (List ℕ)) (files : Option Files) (status : Status) → IsRunStatus status → CanRunTold text files
+    → IfTold text (λ t. IfTold files (λ f. IsExactly IsRunStatus (CanRun t f) Cause status))
+run_ran Cause None files status run can = tt
+run_ran Cause (Some t) None status run can = tt
+run_ran Cause (Some t) (Some f) status run can = record { only = λ _. can.both; comes = λ _. inl run }
