@@ -3,22 +3,24 @@ use Rattle.std.specs.Prelude.{◌≡◌, ◌≢◌, ◌⊎◌, ◌+◌, ◌≤�
 use Rattle.sql_token.specs.declared.token.Token.{Token}
 use Rattle.sql_token.specs.declared.token.TokenKind.TheVariants as Kind
 use Rattle.sql_token.specs.declared.keyword.Keyword.TheVariants as K
-use Rattle.sql_expr.specs.Leaf.{IsWord, IsFixed, IsOneOf, IsNoneOf, AreFixed, IsSign, IsName, IsColumnName}
+use Rattle.sql_expr.specs.Leaf.{IsWord, IsFixed, IsOneOf, IsNoneOf, AreFixed, IsSign, IsName}
 use Rattle.sql_expr.specs.Rules.{NestedAt, UsualAt, IsExprAt, IsSelectAt, IsInParens, AreCommas, IsAfter, AreNames, IsObject, IsAction, IsLiteral, IsColumnType, OpenArm, OpenOperand, OpenPostfix}
 use Rattle.sql_tree.specs.Tokens.{column_tokens, create_table_tokens, create_index_tokens, create_view_tokens, create_trigger_tokens}
 use Rattle.sql_expr.specs.declared.expr.Expr.{Expr, out-Expr}
-use Rattle.sql_expr.specs.declared.expr.Part.{Part, out-Part}
-use Rattle.sql_expr.specs.declared.expr.Operand.{Operand, out-Operand}
+use Rattle.sql_expr.specs.declared.expr.Part.{out-Part}
+use Rattle.sql_expr.specs.declared.expr.Operand.{out-Operand}
 use Rattle.sql_expr.specs.declared.expr.Postfix.{Postfix, out-Postfix}
 use Rattle.sql_expr.specs.declared.select.Arm.{Arm, out-Arm}
 use Rattle.sql_expr.specs.declared.select.CompoundArm.{CompoundArm, out-CompoundArm}
 use Rattle.sql_expr.specs.declared.select.Select.{Select, out-Select}
-use Rattle.sql_expr.specs.declared.select.SelectArm.{SelectArm, out-SelectArm}
+use Rattle.sql_expr.specs.declared.select.SelectArm.{out-SelectArm}
 use Rattle.sql_expr.specs.declared.source.Sources.{Sources, out-Sources}
 use Rattle.sql_expr.specs.declared.source.JoinedSource.{JoinedSource, out-JoinedSource}
 use Rattle.sql_expr.specs.declared.expr.InSet.TheOpen.{Operand-F, Postfix-F, Arm-F}
 use Rattle.sql_expr.specs.declared.operators.Literal.TheVariants as Literal'
 use Rattle.sql_expr.specs.declared.names.ColumnUse.TheVariants as ColumnUse'
+use Rattle.sql_tree.specs.declared.tree.Tree.{Tree}
+use Rattle.sql_tree.specs.declared.tree.Tree.TheVariants as Tree'
 use Rattle.sql_tree.specs.declared.conflict.Resolution.{Resolution}
 use Rattle.sql_tree.specs.declared.conflict.Resolution.TheVariants as Resolution'
 use Rattle.sql_tree.specs.declared.conflict.Conflict.{Conflict}
@@ -39,7 +41,6 @@ use Rattle.sql_tree.specs.declared.table.ColumnCons.TheVariants as ColumnCons'
 use Rattle.sql_tree.specs.declared.table.Column.{Column}
 use Rattle.sql_tree.specs.declared.table.TableCons.{TableCons}
 use Rattle.sql_tree.specs.declared.table.TableCons.TheVariants as TableCons'
-use Rattle.sql_tree.specs.declared.table.NextTableCons.{NextTableCons}
 use Rattle.sql_tree.specs.declared.table.TableConstraints.{TableConstraints}
 use Rattle.sql_tree.specs.declared.table.TableBody.{TableBody}
 use Rattle.sql_tree.specs.declared.table.IfNotExists.{IfNotExists}
@@ -394,3 +395,9 @@ SpellsView text x tokens = ((n : ℕ) × IsCreateView text n x) × (tokens ≡ c
 
 abbrev pub SpellsTrigger : List ℕ → CreateTrigger → List Token → Type 0
 SpellsTrigger text x tokens = ((n : ℕ) × IsCreateTrigger text n x) × (tokens ≡ create_trigger_tokens x)
+
+abbrev pub SpellsTree : List ℕ → Tree → List Token → Type 0
+SpellsTree text (Tree'.Table x) tokens = SpellsTable text x tokens
+SpellsTree text (Tree'.Index x) tokens = SpellsIndex text x tokens
+SpellsTree text (Tree'.View x) tokens = SpellsView text x tokens
+SpellsTree text (Tree'.Trigger x) tokens = SpellsTrigger text x tokens

@@ -29,7 +29,8 @@ pub enum Command {
         table: Bytes,
         column: Bytes,
     },
-    /// `REBUILD [TABLE] table AS definition`, with the definition's text, in which its spans count.
+    /// `REBUILD [TABLE] table AS definition`, with the definition's text, in which its spans count. The
+    /// definition has no IF NOT EXISTS.
     Rebuild {
         table: Bytes,
         text: Bytes,

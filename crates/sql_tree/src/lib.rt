@@ -5,12 +5,8 @@ mod command;
 mod conflict;
 mod index;
 mod nesting;
-#[cfg(test)]
-mod nesting_tests;
 mod statement;
 mod table;
-#[cfg(test)]
-mod tests;
 mod tree;
 mod trigger;
 

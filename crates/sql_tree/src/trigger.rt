@@ -127,7 +127,8 @@ impl Spelled for EndedStatement {
     }
 }
 
-/// `CREATE TRIGGER [IF NOT EXISTS] name [BEFORE|AFTER|INSTEAD OF] event ON object [FOR EACH ROW] [WHEN expr] BEGIN statement ";" {statement ";"} END`
+/// `CREATE TRIGGER [IF NOT EXISTS] name [BEFORE|AFTER|INSTEAD OF] event ON object [FOR EACH ROW] [WHEN expr]`,
+/// `BEGIN statement ";" {statement ";"} END`
 #[derive(Drop)]
 pub struct CreateTrigger {
     pub create: Token,

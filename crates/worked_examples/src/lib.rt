@@ -2,6 +2,10 @@
 #![tactic(auto)]
 
 #[cfg(test)]
+mod nesting;
+#[cfg(test)]
 mod several;
 #[cfg(test)]
 mod tests;
+#[cfg(test)]
+mod trees;

@@ -34,49 +34,44 @@ fn push_cell(rowid: u8, root: u8, row: &Row<'_>, bytes: &mut Vec<u8>) -> Result<
     Ok(())
 }
 
-/// A database with pages of 4096 bytes and these tables, each without rows, with rowids from 1 and roots
-/// from 2 on, whose schema was changed so often.
-fn database(alloc: Global, changes: u32, rows: &[Row<'_>]) -> Result<Vec<u8>, Fail> {
+/// The header of a file with pages of 4096 bytes, whose change counter and schema cookie are `counter`.
+fn header(alloc: Global, counter: u32, pages: u8) -> Result<Vec<u8>, Fail> {
+    let mut bytes = Vec::from_slice(alloc, b"SQLite format 3\0\x10\0\x01\x01\0\x40\x20\x20")?;
+    for number in [counter, pages as u32, 0, 0, counter, 4, 0, 0, 1] {
+        bytes.extend_from_slice(&number.to_be_bytes())?;
+    }
+    bytes.resize(92, 0)?;
+    bytes.extend_from_slice(&counter.to_be_bytes())?;
+    bytes.extend_from_slice(&3_050_000u32.to_be_bytes())?;
+    Ok(bytes)
+}
+
+/// The cells of the rows one after the other, with rowids from 1 and roots from 2 on, and where each begins.
+fn cells_of(alloc: Global, rows: &[Row<'_>]) -> Result<(Vec<u8>, Vec<usize>), Fail> {
     let mut cells = Vec::new(alloc);
     let mut starts = Vec::new(alloc);
-    let mut pages = 1u8;
+    let mut rowid = 0u8;
     for row in rows {
         starts.push(cells.len())?;
+        rowid = rowid.checked_add(1).ok_or("many rows")?;
         push_cell(
-            pages,
-            pages.checked_add(1).ok_or("many rows")?,
+            rowid,
+            rowid.checked_add(1).ok_or("many rows")?,
             row,
             &mut cells,
         )?;
-        pages = pages.checked_add(1).ok_or("many rows")?;
     }
+    Ok((cells, starts))
+}
+
+/// A database with pages of 4096 bytes and these tables, each without rows, with rowids from 1 and roots
+/// from 2 on, whose schema was changed so often.
+fn database(alloc: Global, changes: u32, rows: &[Row<'_>]) -> Result<Vec<u8>, Fail> {
+    let (cells, starts) = cells_of(alloc, rows)?;
     let content = 4096usize.checked_sub(cells.len()).ok_or("long rows")?;
+    let pages = u8::try_from(rows.len())?.checked_add(1).ok_or("many rows")?;
     let counter = changes.checked_add(1).ok_or("many changes")?;
-    let numbers = [
-        counter,
-        pages as u32,
-        0,
-        0,
-        counter,
-        4,
-        0,
-        0,
-        1,
-        0,
-        0,
-        0,
-        0,
-        0,
-        0,
-        0,
-        0,
-        counter,
-        3_050_000,
-    ];
-    let mut bytes = Vec::from_slice(alloc, b"SQLite format 3\0\x10\0\x01\x01\0\x40\x20\x20")?;
-    for number in numbers {
-        bytes.extend_from_slice(&number.to_be_bytes())?;
-    }
+    let mut bytes = header(alloc, counter, pages)?;
     bytes.extend_from_slice(&[13, 0, 0])?;
     bytes.extend_from_slice(&u16::try_from(rows.len())?.to_be_bytes())?;
     bytes.extend_from_slice(&u16::try_from(content)?.to_be_bytes())?;
@@ -381,8 +376,8 @@ fn wide_database(alloc: Global, columns: u32) -> Result<Vec<u8>, Fail> {
     let place = u16::try_from(start)?.to_be_bytes();
     let mut bytes = database(alloc, 0, &[T])?;
     bytes.truncate(100);
-    bytes[16] = 0;
-    bytes[17] = 1;
+    *bytes.get_mut(16).ok_or("no page size")? = 0;
+    *bytes.get_mut(17).ok_or("no page size")? = 1;
     bytes.extend_from_slice(&[13, 0, 0, 0, 1, place[0], place[1], 0, place[0], place[1]])?;
     bytes.resize(start, 0)?;
     bytes.extend_from_slice(cell.as_slice())?;

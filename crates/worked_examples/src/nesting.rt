@@ -1,5 +1,6 @@
-use crate::first_too_deep;
+//! How deep the tokens of a text nest.
 use sql_token::tokens;
+use sql_tree::first_too_deep;
 use std::alloc::Global;
 use std::test::Fail;
 
