@@ -1,5 +1,5 @@
 -- Counts of faults, and results whose faults have a cause.
-use Rattle.std.specs.Prelude.{ℕ, ◌+◌, ◌-◌, ◌^◌, ◌≤◌, min, Result, OnErr, IsErrOf}
+use Rattle.std.specs.Prelude.{◌≡◌, ℕ, ◌+◌, ◌-◌, ◌^◌, ◌≤◌, min, Result, OnOk, OnErr, IsErrOf}
 use Rattle.alter_disk.specs.declared.fault.OpenFault.{OpenFault}
 use Rattle.alter_disk.specs.declared.fault.OpenFault.TheVariants.{Failed}
 
@@ -7,12 +7,14 @@ use Rattle.alter_disk.specs.declared.fault.OpenFault.TheVariants.{Failed}
 abbrev pub Rose : ℕ → ℕ → Type 0
 Rose before now = min (before + 1) (2 ^ 64 - 1) ≤ now
 
--- the count did not fall, and rose where the call failed
+-- the count rose where the call failed, and stayed where it did not
 pub record HasCause {T E : Type 0} (before now : ℕ) (result : Result T E) : Type 0 where
   pub later : before ≤ now
   pub failed : OnErr result (Rose before now)
+  pub only : OnOk result (now ≡ before)
 
--- the count did not fall, and rose where an opening failed for another reason than want of memory
+-- the count rose where an opening failed for another reason than want of memory, and else it stayed
 pub record HasOpenCause {T : Type 0} (before now : ℕ) (result : Result T OpenFault) : Type 0 where
   pub later : before ≤ now
   pub failed : IsErrOf result Failed → Rose before now
+  pub only : (IsErrOf result Failed → ⊥) → now ≡ before

@@ -9,5 +9,5 @@ loop-rest-preserved g c =
     let more = grows (g.K.Sink.written c.args.out.now) was.0 c.args.line.now c.loop-rest.rest.now c.in_ok-count.count was.1 was.2 c.in_ok-count.ensures.added in
     record {
       written = (more.0, more.1, more.2 ∙ ap (λ (x : List ℕ). more.0 ++ x) (sym c.split_at.ensures.back));
-      later = omega (arith, c.in_ok-count.ensures.cause.later);
+      same = c.in_ok-count.ensures.cause.only ∙ c.loop-rest.invariant.same;
     }
