@@ -9,7 +9,8 @@ use Rattle.sql_token.specs.Token.{span, AreTokens}
 use Rattle.sql_token.proofs.Grown.{moved}
 use Rattle.sql_token.proofs.Inserted.{inserted, comma_at, word_behind, inserted_tokens, last_within, spans_stay, spans_move, span_comma, span_word}
 use Rattle.sql_token.proofs.Stands.{IsSimple}
-use Rattle.plain_sql.specs.Words.{IsFixed, IsSign, IsPlainName, IsPlainWord}
+use Rattle.sql_token.specs.Fixed.{IsFixed, IsSign}
+use Rattle.plain_sql.specs.Words.{IsPlainName, IsPlainWord}
 use Rattle.plain_sql.specs.TableText.{ArePlain, IsColumn, AreColumns, SpellsTable, last_end}
 use Rattle.plain_sql.proofs.ColumnsLemmas.{IsMadeOf}
 use Rattle.plain_sql.proofs.WordsLists.{all_append, all_behind, all_before}

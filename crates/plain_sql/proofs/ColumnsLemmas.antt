@@ -5,7 +5,8 @@ use Rattle.sql_token.specs.declared.token.Token.{Token}
 use Rattle.sql_token.specs.declared.token.TokenKind.TheVariants.{Word, Op}
 use Rattle.sql_token.specs.declared.keyword.Keyword.TheVariants.{Create, Table}
 use Rattle.sql_token.specs.Token.{span, AreTokens, AreTokensIn}
-use Rattle.plain_sql.specs.Words.{IsFixed, IsSign, IsPlain, IsPlainName}
+use Rattle.sql_token.specs.Fixed.{IsFixed, IsSign}
+use Rattle.plain_sql.specs.Words.{IsPlain, IsPlainName}
 use Rattle.plain_sql.specs.TableText.{ArePlain, IsColumn, AreColumns, IsStop, IsBehindWords, BeginsColumn, IsFrame, SpellsTable, last_end}
 use Rattle.plain_sql.proofs.WordsLists.{all_at, all_append, cut_one, last_apart, four_and_last}
 

@@ -7,8 +7,9 @@ use Rattle.sql_token.specs.declared.keyword.Keyword.{Keyword}
 use Rattle.sql_token.specs.declared.keyword.Keyword.TheVariants.{Alter, Table, Add, Column}
 use Rattle.sql_token.specs.Names.{folded}
 use Rattle.sql_token.specs.Token.{span}
+use Rattle.sql_token.specs.Fixed.{IsFixed, IsSign}
 use Rattle.plain_sql.specs.declared.script.Command.{Command}
-use Rattle.plain_sql.specs.Words.{IsFixed, IsSign, IsPlainName}
+use Rattle.plain_sql.specs.Words.{IsPlainName}
 use Rattle.plain_sql.specs.Script.{IsColumnWord, SpellsCommand, AreEnds, IsEnded, SpellsCommands, BeginsCommand, IsAdd, IsBehindColumnWord, IsBeyondEnds, IsBehindEnds}
 use Rattle.plain_sql.proofs.WordsLists.{all_at, all_append, all_behind, cut_one}
 

@@ -7,8 +7,9 @@ use Rattle.std.specs.declared.alloc.Global.{Global}
 use Rattle.sql_token.specs.declared.token.Token.{Token}
 use Rattle.sql_token.specs.declared.keyword.Keyword.TheVariants.{Alter, Table, Add, Column}
 use Rattle.sql_token.specs.Token.{AreTokens}
+use Rattle.sql_token.specs.Fixed.{IsFixed, IsSign}
 use Rattle.plain_sql.specs.declared.script.Command.{Command}
-use Rattle.plain_sql.specs.Words.{IsFixed, IsSign, IsPlainName, IsPlainWord, IsRead}
+use Rattle.plain_sql.specs.Words.{IsPlainName, IsPlainWord, IsRead}
 
 -- the word COLUMN, or nothing
 abbrev pub IsColumnWord : List ℕ → List Token → Type 0

@@ -6,8 +6,9 @@ use Rattle.std.specs.declared.alloc.AllocError.{AllocError}
 use Rattle.sql_token.specs.declared.token.Token.{Token}
 use Rattle.sql_token.specs.declared.keyword.Keyword.TheVariants.{Create, Table}
 use Rattle.sql_token.specs.Token.{AreTokens}
+use Rattle.sql_token.specs.Fixed.{IsFixed, IsSign}
 use Rattle.plain_sql.specs.declared.table.TableText.{TableText}
-use Rattle.plain_sql.specs.Words.{IsFixed, IsSign, IsPlainName, IsPlain, IsRead}
+use Rattle.plain_sql.specs.Words.{IsPlainName, IsPlain, IsRead}
 
 -- each of the tokens is a word and none of SQL's
 abbrev pub ArePlain : List ℕ → List Token → Type 0

@@ -1,22 +1,12 @@
 -- The tokens of the texts and scripts that are served so far.
 use Rattle.std.specs.Prelude.{◌≡◌, ◌≢◌, ℕ, List, Option, Some, None, Result, Ok, Err}
 use Rattle.sql_token.specs.declared.token.Token.{Token}
-use Rattle.sql_token.specs.declared.token.TokenKind.TheVariants.{Word, Op}
+use Rattle.sql_token.specs.declared.token.TokenKind.TheVariants.{Word}
 use Rattle.sql_token.specs.declared.keyword.Keyword.{Keyword}
 use Rattle.sql_token.specs.Token.{span}
 use Rattle.sql_token.specs.Form.{IsWord}
 use Rattle.sql_token.specs.Names.{folded}
 use Rattle.sql_token.specs.Keyword.{spelling}
-
--- the token is this fixed word
-pub record IsFixed (text : List ℕ) (word : Keyword) (token : Token) : Type 0 where
-  pub kind : token.kind ≡ Word
-  pub spelled : folded (span text token) ≡ spelling word
-
--- the token is this sign
-pub record IsSign (text : List ℕ) (sign : List ℕ) (token : Token) : Type 0 where
-  pub kind : token.kind ≡ Op
-  pub spelled : span text token ≡ sign
 
 -- the token is a word that is none of SQL's, and the name that it spells
 pub record IsPlainName (text : List ℕ) (token : Token) (name : List ℕ) : Type 0 where

@@ -2,7 +2,8 @@
 ghost use Rattle.std.specs.Prelude.{◌≡◌, ◌↔◌, List, ℕ, [], ◌∷◌, IsTrue, IfOk, IfSome, IfNone};
 ghost use Rattle.sql_token.specs.declared.token.Token.{Token};
 ghost use Rattle.sql_token.specs.Token.{span, AreTokens};
-ghost use Rattle.plain_sql.specs.Words.{IsFixed, IsSign, IsPlainName, IsRead};
+ghost use Rattle.sql_token.specs.Fixed.{IsFixed, IsSign};
+ghost use Rattle.plain_sql.specs.Words.{IsPlainName, IsRead};
 
 use sql_token::{Keyword, Token, TokenError, TokenKind, keyword_of, tokens};
 use std::alloc::{AllocError, Global};

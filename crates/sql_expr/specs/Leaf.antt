@@ -1,22 +1,19 @@
 -- What a leaf may hold: the kind of its token, and its bytes in the text.
-use Rattle.std.specs.Prelude.{◌≡◌, ℕ, List, [], ◌∷◌, All, Any, IsTrue, IfSome, IfNone, codes}
+use Rattle.std.specs.Prelude.{◌≡◌, ℕ, List, [], ◌∷◌, All, Any, IsTrue, codes}
 use Rattle.sql_token.specs.declared.token.Token.{Token}
 use Rattle.sql_token.specs.declared.token.TokenKind.{TokenKind}
 use Rattle.sql_token.specs.declared.token.TokenKind.TheVariants as Kind
 use Rattle.sql_token.specs.declared.keyword.Keyword.{Keyword}
 use Rattle.sql_token.specs.declared.keyword.Keyword.TheVariants as K
-use Rattle.sql_token.specs.Keyword.{spelling, is_reserved, is_join_word}
+use Rattle.sql_token.specs.Keyword.{is_reserved, is_join_word}
 use Rattle.sql_token.specs.Names.{folded, IsNameKind}
 use Rattle.sql_token.specs.Token.{span}
+use Rattle.sql_token.specs.Fixed.{IsFixed, IsSign}
 use Rattle.sql_expr.specs.declared.lists.TokenPair.{TokenPair}
 
--- a Word that spells these letters, in either case
+-- a Word that spells these letters, in either case: a fixed word that is no keyword
 abbrev pub IsWord : List ℕ → List ℕ → Token → Type 0
 IsWord text letters t = (t.kind ≡ Kind.Word) × (folded (span text t) ≡ letters)
-
--- the fixed word
-abbrev pub IsFixed : List ℕ → Keyword → Token → Type 0
-IsFixed text keyword t = IsWord text (spelling keyword) t
 
 -- one of the fixed words
 abbrev pub IsOneOf : List ℕ → List Keyword → Token → Type 0
@@ -29,10 +26,6 @@ IsNoneOf text keywords t = All (λ keyword. IsFixed text keyword t → ⊥) keyw
 -- two fixed words in a row
 abbrev pub AreFixed : List ℕ → Keyword → Keyword → TokenPair → Type 0
 AreFixed text first second pair = IsFixed text first pair.first × IsFixed text second pair.second
-
--- the sign
-abbrev pub IsSign : List ℕ → List ℕ → Token → Type 0
-IsSign text sign t = (t.kind ≡ Kind.Op) × (span text t ≡ sign)
 
 -- an operator sign: a sign other than ( ) , ; .
 abbrev pub IsOperatorSign : List ℕ → Token → Type 0

@@ -1,10 +1,11 @@
 -- What a tree of each rule may hold. `nested` says it of the trees inside.
-use Rattle.std.specs.Prelude.{◌≡◌, ◌⊎◌, ℕ, zero, suc, List, [], ◌∷◌, Option, Some, None, All, IfSome, IfNone, codes}
+use Rattle.std.specs.Prelude.{◌≡◌, ◌⊎◌, ℕ, zero, suc, List, [], ◌∷◌, Option, None, All, IfSome, IfNone, codes}
 use Rattle.sql_token.specs.declared.token.Token.{Token}
 use Rattle.sql_token.specs.declared.token.TokenKind.TheVariants as Kind
 use Rattle.sql_token.specs.declared.keyword.Keyword.{Keyword}
 use Rattle.sql_token.specs.declared.keyword.Keyword.TheVariants as K
-use Rattle.sql_expr.specs.Leaf.{IsFixed, IsOneOf, IsNoneOf, AreFixed, IsSign, IsOperatorSign, IsNumberKind, IsName, IsBareAlias, IsTypeName, IsFreeOfGenerated, IsOperandName, IsColumnName, BeginsWithout}
+use Rattle.sql_token.specs.Fixed.{IsFixed, IsSign}
+use Rattle.sql_expr.specs.Leaf.{IsOneOf, IsNoneOf, AreFixed, IsOperatorSign, IsNumberKind, IsName, IsBareAlias, IsTypeName, IsFreeOfGenerated, IsOperandName, IsColumnName, BeginsWithout}
 use Rattle.sql_expr.specs.Tokens.{commas_tokens}
 use Rattle.sql_expr.specs.Tree.{expr_tokens, part_tokens, select_tokens, sources_tokens}
 use Rattle.sql_expr.specs.declared.lists.After.{After}

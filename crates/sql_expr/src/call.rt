@@ -3,6 +3,7 @@
 use crate::lists::{After, By, Commas, InParens, NextItem};
 use crate::names::ColumnType;
 use crate::operators::Action;
+use crate::spell_all;
 use crate::spelled::Spelled;
 use crate::window::{Term, Window};
 use sql_token::Token;
@@ -34,11 +35,7 @@ impl<E: Spelled> Spelled for CallArguments<E> {
                 distinct,
                 exprs,
                 order,
-            } => {
-                distinct.spell(tokens)?;
-                exprs.spell(tokens)?;
-                order.spell(tokens)
-            }
+            } => spell_all!(tokens; distinct, exprs, order),
         }
     }
 }
@@ -59,14 +56,8 @@ impl<E: Spelled> Spelled for Over<E> {
 
     fn spell(&self, tokens: &mut Vec<Token>) -> Result<(), AllocError> {
         match self {
-            Over::Name { over, name } => {
-                over.spell(tokens)?;
-                name.spell(tokens)
-            }
-            Over::Window { over, window } => {
-                over.spell(tokens)?;
-                window.spell(tokens)
-            }
+            Over::Name { over, name } => spell_all!(tokens; over, name),
+            Over::Window { over, window } => spell_all!(tokens; over, window),
         }
     }
 }
@@ -86,10 +77,7 @@ impl<E: Spelled> Spelled for Call<E> {
     ghost spelled = { call_tokens E.spelled };
 
     fn spell(&self, tokens: &mut Vec<Token>) -> Result<(), AllocError> {
-        self.name.spell(tokens)?;
-        self.arguments.spell(tokens)?;
-        self.filter.spell(tokens)?;
-        self.over.spell(tokens)
+        spell_all!(tokens; self.name, self.arguments, self.filter, self.over)
     }
 }
 
@@ -108,10 +96,7 @@ impl<E: Spelled> Spelled for When<E> {
     ghost spelled = { when_tokens E.spelled };
 
     fn spell(&self, tokens: &mut Vec<Token>) -> Result<(), AllocError> {
-        self.when.spell(tokens)?;
-        self.condition.spell(tokens)?;
-        self.then_word.spell(tokens)?;
-        self.result.spell(tokens)
+        spell_all!(tokens; self.when, self.condition, self.then_word, self.result)
     }
 }
 
@@ -132,12 +117,7 @@ impl<E: Spelled> Spelled for Case<E> {
     ghost spelled = { case_tokens E.spelled };
 
     fn spell(&self, tokens: &mut Vec<Token>) -> Result<(), AllocError> {
-        self.case.spell(tokens)?;
-        self.subject.spell(tokens)?;
-        self.first.spell(tokens)?;
-        self.more.spell(tokens)?;
-        self.otherwise.spell(tokens)?;
-        self.end.spell(tokens)
+        spell_all!(tokens; self.case, self.subject, self.first, self.more, self.otherwise, self.end)
     }
 }
 
@@ -158,12 +138,10 @@ impl<E: Spelled> Spelled for Cast<E> {
     ghost spelled = { cast_tokens E.spelled };
 
     fn spell(&self, tokens: &mut Vec<Token>) -> Result<(), AllocError> {
-        self.cast.spell(tokens)?;
-        self.opening.spell(tokens)?;
-        self.expr.spell(tokens)?;
-        self.as_word.spell(tokens)?;
-        self.column_type.spell(tokens)?;
-        self.closing.spell(tokens)
+        spell_all!(
+            tokens; self.cast, self.opening, self.expr, self.as_word, self.column_type,
+            self.closing
+        )
     }
 }
 
@@ -187,10 +165,7 @@ impl<E: Spelled> Spelled for RaiseAction<E> {
     fn spell(&self, tokens: &mut Vec<Token>) -> Result<(), AllocError> {
         match self {
             RaiseAction::Ignore(part) => part.spell(tokens),
-            RaiseAction::Action { action, message } => {
-                action.spell(tokens)?;
-                message.spell(tokens)
-            }
+            RaiseAction::Action { action, message } => spell_all!(tokens; action, message),
         }
     }
 }
@@ -208,7 +183,6 @@ impl<E: Spelled> Spelled for Raise<E> {
     ghost spelled = { raise_tokens E.spelled };
 
     fn spell(&self, tokens: &mut Vec<Token>) -> Result<(), AllocError> {
-        self.raise.spell(tokens)?;
-        self.action.spell(tokens)
+        spell_all!(tokens; self.raise, self.action)
     }
 }

@@ -5,6 +5,7 @@ use crate::lists::{Commas, InParens};
 use crate::names::{ColumnUse, Object};
 use crate::operators::{Infix, Literal};
 use crate::select::Select;
+use crate::spell_all;
 use crate::spelled::{Spelled, tokens_of};
 use sql_token::Token;
 use sqlite_items::{Boxed, Items};
@@ -25,8 +26,7 @@ impl Spelled for Expr {
 
     #[cycle(flatten)]
     fn spell(&self, tokens: &mut Vec<Token>) -> Result<(), AllocError> {
-        self.first.spell(tokens)?;
-        self.more.spell(tokens)
+        spell_all!(tokens; self.first, self.more)
     }
 }
 
@@ -57,8 +57,7 @@ impl Spelled for InfixPart {
 
     #[cycle(flatten)]
     fn spell(&self, tokens: &mut Vec<Token>) -> Result<(), AllocError> {
-        self.operator.spell(tokens)?;
-        self.part.spell(tokens)
+        spell_all!(tokens; self.operator, self.part)
     }
 }
 
@@ -78,9 +77,7 @@ impl Spelled for Part {
 
     #[cycle(flatten)]
     fn spell(&self, tokens: &mut Vec<Token>) -> Result<(), AllocError> {
-        self.prefixes.spell(tokens)?;
-        self.operand.spell(tokens)?;
-        self.postfixes.spell(tokens)
+        spell_all!(tokens; self.prefixes, self.operand, self.postfixes)
     }
 }
 
@@ -118,21 +115,11 @@ impl Spelled for Postfix {
     #[cycle(flatten)]
     fn spell(&self, tokens: &mut Vec<Token>) -> Result<(), AllocError> {
         match self {
-            Postfix::Collate { collate, name } => {
-                collate.spell(tokens)?;
-                name.spell(tokens)
-            }
+            Postfix::Collate { collate, name } => spell_all!(tokens; collate, name),
             Postfix::IsNull(part) => part.spell(tokens),
             Postfix::NotNull(part) => part.spell(tokens),
-            Postfix::NotNullWords { not, null } => {
-                not.spell(tokens)?;
-                null.spell(tokens)
-            }
-            Postfix::In { not, in_word, set } => {
-                not.spell(tokens)?;
-                in_word.spell(tokens)?;
-                set.spell(tokens)
-            }
+            Postfix::NotNullWords { not, null } => spell_all!(tokens; not, null),
+            Postfix::In { not, in_word, set } => spell_all!(tokens; not, in_word, set),
         }
     }
 }
@@ -165,10 +152,7 @@ impl Spelled for InSet {
             InSet::List(part) => part.spell(tokens),
             InSet::Query(part) => part.spell(tokens),
             InSet::Object(part) => part.spell(tokens),
-            InSet::Function { name, arguments } => {
-                name.spell(tokens)?;
-                arguments.spell(tokens)
-            }
+            InSet::Function { name, arguments } => spell_all!(tokens; name, arguments),
         }
     }
 }
@@ -210,10 +194,7 @@ impl Spelled for Operand {
             Operand::Column(part) => part.spell(tokens),
             Operand::Call(part) => part.spell(tokens),
             Operand::Exprs(part) => part.spell(tokens),
-            Operand::Subquery { exists, select } => {
-                exists.spell(tokens)?;
-                select.spell(tokens)
-            }
+            Operand::Subquery { exists, select } => spell_all!(tokens; exists, select),
             Operand::Case(part) => part.spell(tokens),
             Operand::Cast(part) => part.spell(tokens),
             Operand::Raise(part) => part.spell(tokens),

@@ -1,5 +1,6 @@
 //! Parts that many rules have: words in a row, parentheses, lists with commas.
 
+use crate::spell_all;
 use crate::spelled::Spelled;
 use sql_token::Token;
 use sqlite_items::Items;
@@ -18,8 +19,7 @@ impl Spelled for TokenPair {
     ghost spelled = { token_pair_tokens };
 
     fn spell(&self, tokens: &mut Vec<Token>) -> Result<(), AllocError> {
-        self.first.spell(tokens)?;
-        self.second.spell(tokens)
+        spell_all!(tokens; self.first, self.second)
     }
 }
 
@@ -36,8 +36,7 @@ impl<T: Spelled> Spelled for After<T> {
     ghost spelled = { after_tokens T.spelled };
 
     fn spell(&self, tokens: &mut Vec<Token>) -> Result<(), AllocError> {
-        self.word.spell(tokens)?;
-        self.part.spell(tokens)
+        spell_all!(tokens; self.word, self.part)
     }
 }
 
@@ -55,9 +54,7 @@ impl<T: Spelled> Spelled for InParens<T> {
     ghost spelled = { in_parens_tokens T.spelled };
 
     fn spell(&self, tokens: &mut Vec<Token>) -> Result<(), AllocError> {
-        self.opening.spell(tokens)?;
-        self.inner.spell(tokens)?;
-        self.closing.spell(tokens)
+        spell_all!(tokens; self.opening, self.inner, self.closing)
     }
 }
 
@@ -74,8 +71,7 @@ impl<T: Spelled> Spelled for NextItem<T> {
     ghost spelled = { next_item_tokens T.spelled };
 
     fn spell(&self, tokens: &mut Vec<Token>) -> Result<(), AllocError> {
-        self.comma.spell(tokens)?;
-        self.item.spell(tokens)
+        spell_all!(tokens; self.comma, self.item)
     }
 }
 
@@ -92,8 +88,7 @@ impl<T: Spelled> Spelled for Commas<T> {
     ghost spelled = { commas_tokens T.spelled };
 
     fn spell(&self, tokens: &mut Vec<Token>) -> Result<(), AllocError> {
-        self.first.spell(tokens)?;
-        self.more.spell(tokens)
+        spell_all!(tokens; self.first, self.more)
     }
 }
 
@@ -111,8 +106,6 @@ impl<T: Spelled> Spelled for By<T> {
     ghost spelled = { by_tokens T.spelled };
 
     fn spell(&self, tokens: &mut Vec<Token>) -> Result<(), AllocError> {
-        self.word.spell(tokens)?;
-        self.by.spell(tokens)?;
-        self.items.spell(tokens)
+        spell_all!(tokens; self.word, self.by, self.items)
     }
 }

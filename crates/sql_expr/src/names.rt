@@ -1,6 +1,7 @@
 //! Names of objects, aliases and types.
 
 use crate::lists::{InParens, NextItem, TokenPair};
+use crate::spell_all;
 use crate::spelled::Spelled;
 use sql_token::Token;
 use sqlite_items::Items;
@@ -19,8 +20,7 @@ impl Spelled for Object {
     ghost spelled = { object_tokens };
 
     fn spell(&self, tokens: &mut Vec<Token>) -> Result<(), AllocError> {
-        self.qualifier.spell(tokens)?;
-        self.name.spell(tokens)
+        spell_all!(tokens; self.qualifier, self.name)
     }
 }
 
@@ -37,8 +37,7 @@ impl Spelled for Alias {
     ghost spelled = { alias_tokens };
 
     fn spell(&self, tokens: &mut Vec<Token>) -> Result<(), AllocError> {
-        self.as_word.spell(tokens)?;
-        self.name.spell(tokens)
+        spell_all!(tokens; self.as_word, self.name)
     }
 }
 
@@ -71,24 +70,14 @@ impl Spelled for ColumnUse {
     fn spell(&self, tokens: &mut Vec<Token>) -> Result<(), AllocError> {
         match self {
             ColumnUse::One(part) => part.spell(tokens),
-            ColumnUse::Two { table, dot, column } => {
-                table.spell(tokens)?;
-                dot.spell(tokens)?;
-                column.spell(tokens)
-            }
+            ColumnUse::Two { table, dot, column } => spell_all!(tokens; table, dot, column),
             ColumnUse::Three {
                 schema,
                 first_dot,
                 table,
                 second_dot,
                 column,
-            } => {
-                schema.spell(tokens)?;
-                first_dot.spell(tokens)?;
-                table.spell(tokens)?;
-                second_dot.spell(tokens)?;
-                column.spell(tokens)
-            }
+            } => spell_all!(tokens; schema, first_dot, table, second_dot, column),
         }
     }
 }
@@ -106,8 +95,7 @@ impl Spelled for Signed {
     ghost spelled = { signed_tokens };
 
     fn spell(&self, tokens: &mut Vec<Token>) -> Result<(), AllocError> {
-        self.sign.spell(tokens)?;
-        self.number.spell(tokens)
+        spell_all!(tokens; self.sign, self.number)
     }
 }
 
@@ -124,8 +112,7 @@ impl Spelled for TypeSize {
     ghost spelled = { type_size_tokens };
 
     fn spell(&self, tokens: &mut Vec<Token>) -> Result<(), AllocError> {
-        self.first.spell(tokens)?;
-        self.second.spell(tokens)
+        spell_all!(tokens; self.first, self.second)
     }
 }
 
@@ -143,8 +130,6 @@ impl Spelled for ColumnType {
     ghost spelled = { column_type_tokens };
 
     fn spell(&self, tokens: &mut Vec<Token>) -> Result<(), AllocError> {
-        self.first.spell(tokens)?;
-        self.more.spell(tokens)?;
-        self.size.spell(tokens)
+        spell_all!(tokens; self.first, self.more, self.size)
     }
 }

@@ -1,6 +1,7 @@
 //! Literals, the operators between parts, and the words of actions.
 
 use crate::lists::TokenPair;
+use crate::spell_all;
 use crate::spelled::Spelled;
 use sql_token::Token;
 use std::alloc::AllocError;
@@ -105,16 +106,9 @@ impl Spelled for Infix {
                 is,
                 not,
                 distinct_from,
-            } => {
-                is.spell(tokens)?;
-                not.spell(tokens)?;
-                distinct_from.spell(tokens)
-            }
+            } => spell_all!(tokens; is, not, distinct_from),
             Infix::Escape(part) => part.spell(tokens),
-            Infix::Compares { not, word } => {
-                not.spell(tokens)?;
-                word.spell(tokens)
-            }
+            Infix::Compares { not, word } => spell_all!(tokens; not, word),
         }
     }
 }

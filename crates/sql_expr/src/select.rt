@@ -4,6 +4,7 @@ use crate::expr::Expr;
 use crate::lists::{After, By, Commas, InParens};
 use crate::names::Alias;
 use crate::source::Sources;
+use crate::spell_all;
 use crate::spelled::{Spelled, tokens_of};
 use crate::window::{NamedWindow, Term};
 use sql_token::Token;
@@ -23,8 +24,7 @@ impl Spelled for Materialized {
     ghost spelled = { materialized_tokens };
 
     fn spell(&self, tokens: &mut Vec<Token>) -> Result<(), AllocError> {
-        self.not.spell(tokens)?;
-        self.materialized.spell(tokens)
+        spell_all!(tokens; self.not, self.materialized)
     }
 }
 
@@ -44,11 +44,7 @@ impl<S: Spelled> Spelled for Cte<S> {
     ghost spelled = { cte_tokens S.spelled };
 
     fn spell(&self, tokens: &mut Vec<Token>) -> Result<(), AllocError> {
-        self.name.spell(tokens)?;
-        self.columns.spell(tokens)?;
-        self.as_word.spell(tokens)?;
-        self.materialized.spell(tokens)?;
-        self.select.spell(tokens)
+        spell_all!(tokens; self.name, self.columns, self.as_word, self.materialized, self.select)
     }
 }
 
@@ -66,9 +62,7 @@ impl<S: Spelled> Spelled for With<S> {
     ghost spelled = { with_tokens S.spelled };
 
     fn spell(&self, tokens: &mut Vec<Token>) -> Result<(), AllocError> {
-        self.with_word.spell(tokens)?;
-        self.recursive.spell(tokens)?;
-        self.ctes.spell(tokens)
+        spell_all!(tokens; self.with_word, self.recursive, self.ctes)
     }
 }
 
@@ -90,10 +84,7 @@ impl Spelled for Compound {
 
     fn spell(&self, tokens: &mut Vec<Token>) -> Result<(), AllocError> {
         match self {
-            Compound::Union { union, all } => {
-                union.spell(tokens)?;
-                all.spell(tokens)
-            }
+            Compound::Union { union, all } => spell_all!(tokens; union, all),
             Compound::Except(part) => part.spell(tokens),
             Compound::Intersect(part) => part.spell(tokens),
         }
@@ -114,9 +105,7 @@ impl<E: Spelled> Spelled for Limit<E> {
     ghost spelled = { limit_tokens E.spelled };
 
     fn spell(&self, tokens: &mut Vec<Token>) -> Result<(), AllocError> {
-        self.limit.spell(tokens)?;
-        self.count.spell(tokens)?;
-        self.second.spell(tokens)
+        spell_all!(tokens; self.limit, self.count, self.second)
     }
 }
 
@@ -146,15 +135,8 @@ impl<E: Spelled> Spelled for ResultItem<E> {
     fn spell(&self, tokens: &mut Vec<Token>) -> Result<(), AllocError> {
         match self {
             ResultItem::Star(part) => part.spell(tokens),
-            ResultItem::AllOf { name, dot, star } => {
-                name.spell(tokens)?;
-                dot.spell(tokens)?;
-                star.spell(tokens)
-            }
-            ResultItem::Expr { expr, alias } => {
-                expr.spell(tokens)?;
-                alias.spell(tokens)
-            }
+            ResultItem::AllOf { name, dot, star } => spell_all!(tokens; name, dot, star),
+            ResultItem::Expr { expr, alias } => spell_all!(tokens; expr, alias),
         }
     }
 }
@@ -196,14 +178,10 @@ impl Spelled for SelectArm {
 
     #[cycle(flatten)]
     fn spell(&self, tokens: &mut Vec<Token>) -> Result<(), AllocError> {
-        self.select.spell(tokens)?;
-        self.quantifier.spell(tokens)?;
-        self.items.spell(tokens)?;
-        self.from.spell(tokens)?;
-        self.filter.spell(tokens)?;
-        self.group.spell(tokens)?;
-        self.having.spell(tokens)?;
-        self.windows.spell(tokens)
+        spell_all!(
+            tokens; self.select, self.quantifier, self.items, self.from, self.filter, self.group,
+            self.having, self.windows
+        )
     }
 }
 
@@ -229,10 +207,7 @@ impl Spelled for Arm {
     fn spell(&self, tokens: &mut Vec<Token>) -> Result<(), AllocError> {
         match self {
             Arm::Select(part) => part.spell(tokens),
-            Arm::Values { values, rows } => {
-                values.spell(tokens)?;
-                rows.spell(tokens)
-            }
+            Arm::Values { values, rows } => spell_all!(tokens; values, rows),
         }
     }
 }
@@ -252,8 +227,7 @@ impl Spelled for CompoundArm {
 
     #[cycle(flatten)]
     fn spell(&self, tokens: &mut Vec<Token>) -> Result<(), AllocError> {
-        self.compound.spell(tokens)?;
-        self.arm.spell(tokens)
+        spell_all!(tokens; self.compound, self.arm)
     }
 }
 
@@ -275,11 +249,7 @@ impl Spelled for Select {
 
     #[cycle(flatten)]
     fn spell(&self, tokens: &mut Vec<Token>) -> Result<(), AllocError> {
-        self.with_clause.spell(tokens)?;
-        self.arm.spell(tokens)?;
-        self.compounds.spell(tokens)?;
-        self.order.spell(tokens)?;
-        self.limit.spell(tokens)
+        spell_all!(tokens; self.with_clause, self.arm, self.compounds, self.order, self.limit)
     }
 }
 

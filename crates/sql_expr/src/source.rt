@@ -4,6 +4,7 @@ use crate::expr::Expr;
 use crate::lists::{After, Commas, InParens};
 use crate::names::{Alias, Object};
 use crate::select::Select;
+use crate::spell_all;
 use crate::spelled::Spelled;
 use sql_token::Token;
 use sqlite_items::{Boxed, Items};
@@ -27,10 +28,7 @@ impl Spelled for JoinKind {
 
     fn spell(&self, tokens: &mut Vec<Token>) -> Result<(), AllocError> {
         match self {
-            JoinKind::Outer { side, outer } => {
-                side.spell(tokens)?;
-                outer.spell(tokens)
-            }
+            JoinKind::Outer { side, outer } => spell_all!(tokens; side, outer),
             JoinKind::Inner(part) => part.spell(tokens),
             JoinKind::Cross(part) => part.spell(tokens),
         }
@@ -62,11 +60,7 @@ impl Spelled for Join {
                 natural,
                 kind,
                 join,
-            } => {
-                natural.spell(tokens)?;
-                kind.spell(tokens)?;
-                join.spell(tokens)
-            }
+            } => spell_all!(tokens; natural, kind, join),
         }
     }
 }
@@ -91,10 +85,7 @@ impl<E: Spelled> Spelled for JoinConstraint<E> {
     fn spell(&self, tokens: &mut Vec<Token>) -> Result<(), AllocError> {
         match self {
             JoinConstraint::On(part) => part.spell(tokens),
-            JoinConstraint::Using { using, names } => {
-                using.spell(tokens)?;
-                names.spell(tokens)
-            }
+            JoinConstraint::Using { using, names } => spell_all!(tokens; using, names),
         }
     }
 }
@@ -122,15 +113,8 @@ impl Spelled for Indexing {
 
     fn spell(&self, tokens: &mut Vec<Token>) -> Result<(), AllocError> {
         match self {
-            Indexing::By { indexed, by, name } => {
-                indexed.spell(tokens)?;
-                by.spell(tokens)?;
-                name.spell(tokens)
-            }
-            Indexing::Not { not, indexed } => {
-                not.spell(tokens)?;
-                indexed.spell(tokens)
-            }
+            Indexing::By { indexed, by, name } => spell_all!(tokens; indexed, by, name),
+            Indexing::Not { not, indexed } => spell_all!(tokens; not, indexed),
         }
     }
 }
@@ -150,8 +134,7 @@ impl Spelled for Sources {
 
     #[cycle(flatten)]
     fn spell(&self, tokens: &mut Vec<Token>) -> Result<(), AllocError> {
-        self.first.spell(tokens)?;
-        self.more.spell(tokens)
+        spell_all!(tokens; self.first, self.more)
     }
 }
 
@@ -171,9 +154,7 @@ impl Spelled for JoinedSource {
 
     #[cycle(flatten)]
     fn spell(&self, tokens: &mut Vec<Token>) -> Result<(), AllocError> {
-        self.join.spell(tokens)?;
-        self.source.spell(tokens)?;
-        self.constraint.spell(tokens)
+        spell_all!(tokens; self.join, self.source, self.constraint)
     }
 }
 
@@ -214,24 +195,13 @@ impl Spelled for TableSource {
                 object,
                 alias,
                 indexing,
-            } => {
-                object.spell(tokens)?;
-                alias.spell(tokens)?;
-                indexing.spell(tokens)
-            }
+            } => spell_all!(tokens; object, alias, indexing),
             TableSource::TableFunction {
                 name,
                 arguments,
                 alias,
-            } => {
-                name.spell(tokens)?;
-                arguments.spell(tokens)?;
-                alias.spell(tokens)
-            }
-            TableSource::Derived { select, alias } => {
-                select.spell(tokens)?;
-                alias.spell(tokens)
-            }
+            } => spell_all!(tokens; name, arguments, alias),
+            TableSource::Derived { select, alias } => spell_all!(tokens; select, alias),
             TableSource::Sources(part) => part.spell(tokens),
         }
     }

@@ -18,6 +18,18 @@ pub trait Spelled {
         ensures { OnOk result (tokens.new.items ≡ tokens.old.items ++ spelled self.now) };
 }
 
+/// Adds the tokens of the parts at the end of the list, in order: `spell_all!(tokens; self.first, self.more)`.
+#[macro_export]
+macro_rules! spell_all {
+    ($tokens:ident; $last:expr) => {
+        $last.spell($tokens)
+    };
+    ($tokens:ident; $part:expr, $($more:expr),+) => {{
+        $part.spell($tokens)?;
+        $crate::spell_all!($tokens; $($more),+)
+    }};
+}
+
 /// The tokens of the tree, in order.
 pub fn tokens_of<T: Spelled>(alloc: Global, tree: &T) -> Result<Vec<Token>, AllocError>
     ensures { IfOk result (λ list. list.items ≡ T.spelled tree.now) }

@@ -1,6 +1,7 @@
 //! Windows, and the terms of ORDER BY.
 
 use crate::lists::{After, By, TokenPair};
+use crate::spell_all;
 use crate::spelled::Spelled;
 use sql_token::Token;
 use std::alloc::AllocError;
@@ -19,9 +20,7 @@ impl<E: Spelled> Spelled for Term<E> {
     ghost spelled = { term_tokens E.spelled };
 
     fn spell(&self, tokens: &mut Vec<Token>) -> Result<(), AllocError> {
-        self.expr.spell(tokens)?;
-        self.direction.spell(tokens)?;
-        self.nulls.spell(tokens)
+        spell_all!(tokens; self.expr, self.direction, self.nulls)
     }
 }
 
@@ -43,18 +42,9 @@ impl<E: Spelled> Spelled for Bound<E> {
 
     fn spell(&self, tokens: &mut Vec<Token>) -> Result<(), AllocError> {
         match self {
-            Bound::Unbounded { unbounded, way } => {
-                unbounded.spell(tokens)?;
-                way.spell(tokens)
-            }
-            Bound::CurrentRow { current, row } => {
-                current.spell(tokens)?;
-                row.spell(tokens)
-            }
-            Bound::Expr { expr, way } => {
-                expr.spell(tokens)?;
-                way.spell(tokens)
-            }
+            Bound::Unbounded { unbounded, way } => spell_all!(tokens; unbounded, way),
+            Bound::CurrentRow { current, row } => spell_all!(tokens; current, row),
+            Bound::Expr { expr, way } => spell_all!(tokens; expr, way),
         }
     }
 }
@@ -86,12 +76,7 @@ impl<E: Spelled> Spelled for FrameExtent<E> {
                 start,
                 and,
                 end,
-            } => {
-                between.spell(tokens)?;
-                start.spell(tokens)?;
-                and.spell(tokens)?;
-                end.spell(tokens)
-            }
+            } => spell_all!(tokens; between, start, and, end),
         }
     }
 }
@@ -116,14 +101,8 @@ impl Spelled for Excluded {
 
     fn spell(&self, tokens: &mut Vec<Token>) -> Result<(), AllocError> {
         match self {
-            Excluded::NoOthers { no, others } => {
-                no.spell(tokens)?;
-                others.spell(tokens)
-            }
-            Excluded::CurrentRow { current, row } => {
-                current.spell(tokens)?;
-                row.spell(tokens)
-            }
+            Excluded::NoOthers { no, others } => spell_all!(tokens; no, others),
+            Excluded::CurrentRow { current, row } => spell_all!(tokens; current, row),
             Excluded::Group(part) => part.spell(tokens),
             Excluded::Ties(part) => part.spell(tokens),
         }
@@ -144,9 +123,7 @@ impl<E: Spelled> Spelled for Frame<E> {
     ghost spelled = { frame_tokens E.spelled };
 
     fn spell(&self, tokens: &mut Vec<Token>) -> Result<(), AllocError> {
-        self.unit.spell(tokens)?;
-        self.extent.spell(tokens)?;
-        self.exclude.spell(tokens)
+        spell_all!(tokens; self.unit, self.extent, self.exclude)
     }
 }
 
@@ -167,12 +144,9 @@ impl<E: Spelled> Spelled for Window<E> {
     ghost spelled = { window_tokens E.spelled };
 
     fn spell(&self, tokens: &mut Vec<Token>) -> Result<(), AllocError> {
-        self.opening.spell(tokens)?;
-        self.base.spell(tokens)?;
-        self.partition.spell(tokens)?;
-        self.order.spell(tokens)?;
-        self.frame.spell(tokens)?;
-        self.closing.spell(tokens)
+        spell_all!(
+            tokens; self.opening, self.base, self.partition, self.order, self.frame, self.closing
+        )
     }
 }
 
@@ -190,8 +164,6 @@ impl<E: Spelled> Spelled for NamedWindow<E> {
     ghost spelled = { named_window_tokens E.spelled };
 
     fn spell(&self, tokens: &mut Vec<Token>) -> Result<(), AllocError> {
-        self.name.spell(tokens)?;
-        self.as_word.spell(tokens)?;
-        self.window.spell(tokens)
+        spell_all!(tokens; self.name, self.as_word, self.window)
     }
 }

@@ -1,5 +1,6 @@
 pub mod Byte
 pub mod Filler
+pub mod Fixed
 pub mod Form
 pub mod Keyword
 pub mod Names

@@ -3,7 +3,8 @@ use Rattle.std.specs.Prelude.{◌≡◌, ◌≢◌, ◌⊎◌, ◌+◌, ◌≤�
 use Rattle.sql_token.specs.declared.token.Token.{Token}
 use Rattle.sql_token.specs.declared.token.TokenKind.TheVariants as Kind
 use Rattle.sql_token.specs.declared.keyword.Keyword.TheVariants as K
-use Rattle.sql_expr.specs.Leaf.{IsWord, IsFixed, IsOneOf, IsNoneOf, AreFixed, IsSign, IsName}
+use Rattle.sql_token.specs.Fixed.{IsFixed, IsSign}
+use Rattle.sql_expr.specs.Leaf.{IsWord, IsOneOf, IsNoneOf, AreFixed, IsName}
 use Rattle.sql_expr.specs.Rules.{NestedAt, UsualAt, IsExprAt, IsSelectAt, IsInParens, AreCommas, IsAfter, AreNames, IsObject, IsAction, IsLiteral, IsColumnType, OpenArm, OpenOperand, OpenPostfix}
 use Rattle.sql_tree.specs.Tokens.{column_tokens, create_table_tokens, create_index_tokens, create_view_tokens, create_trigger_tokens}
 use Rattle.sql_expr.specs.declared.expr.Expr.{Expr, out-Expr}

@@ -1,6 +1,6 @@
 //! Conflict clauses, and the foreign keys of REFERENCES.
 
-use sql_expr::{Action, Commas, InParens, Spelled, TokenPair};
+use sql_expr::{Action, Commas, InParens, Spelled, TokenPair, spell_all};
 use sql_token::Token;
 use sqlite_items::Items;
 use std::alloc::AllocError;
@@ -44,9 +44,7 @@ impl Spelled for Conflict {
     ghost spelled = { conflict_tokens };
 
     fn spell(&self, tokens: &mut Vec<Token>) -> Result<(), AllocError> {
-        self.on.spell(tokens)?;
-        self.conflict.spell(tokens)?;
-        self.resolution.spell(tokens)
+        spell_all!(tokens; self.on, self.conflict, self.resolution)
     }
 }
 
@@ -63,8 +61,7 @@ impl Spelled for OrAction {
     ghost spelled = { or_action_tokens };
 
     fn spell(&self, tokens: &mut Vec<Token>) -> Result<(), AllocError> {
-        self.or.spell(tokens)?;
-        self.resolution.spell(tokens)
+        spell_all!(tokens; self.or, self.resolution)
     }
 }
 
@@ -122,15 +119,8 @@ impl Spelled for ReferenceClause {
 
     fn spell(&self, tokens: &mut Vec<Token>) -> Result<(), AllocError> {
         match self {
-            ReferenceClause::On { on, event, action } => {
-                on.spell(tokens)?;
-                event.spell(tokens)?;
-                action.spell(tokens)
-            }
-            ReferenceClause::Match { matches, name } => {
-                matches.spell(tokens)?;
-                name.spell(tokens)
-            }
+            ReferenceClause::On { on, event, action } => spell_all!(tokens; on, event, action),
+            ReferenceClause::Match { matches, name } => spell_all!(tokens; matches, name),
         }
     }
 }
@@ -149,9 +139,7 @@ impl Spelled for Deferral {
     ghost spelled = { deferral_tokens };
 
     fn spell(&self, tokens: &mut Vec<Token>) -> Result<(), AllocError> {
-        self.not.spell(tokens)?;
-        self.deferrable.spell(tokens)?;
-        self.initially.spell(tokens)
+        spell_all!(tokens; self.not, self.deferrable, self.initially)
     }
 }
 
@@ -171,10 +159,6 @@ impl Spelled for References {
     ghost spelled = { references_tokens };
 
     fn spell(&self, tokens: &mut Vec<Token>) -> Result<(), AllocError> {
-        self.references.spell(tokens)?;
-        self.table.spell(tokens)?;
-        self.columns.spell(tokens)?;
-        self.clauses.spell(tokens)?;
-        self.deferral.spell(tokens)
+        spell_all!(tokens; self.references, self.table, self.columns, self.clauses, self.deferral)
     }
 }

@@ -1,7 +1,7 @@
 //! Indexes and views.
 
 use crate::table::{IfNotExists, Indexed};
-use sql_expr::{After, Commas, Expr, InParens, Select, Spelled, tokens_of};
+use sql_expr::{After, Commas, Expr, InParens, Select, Spelled, spell_all, tokens_of};
 use sql_token::Token;
 use std::alloc::{AllocError, Global};
 
@@ -25,15 +25,10 @@ impl Spelled for CreateIndex {
     ghost spelled = { create_index_tokens };
 
     fn spell(&self, tokens: &mut Vec<Token>) -> Result<(), AllocError> {
-        self.create.spell(tokens)?;
-        self.unique.spell(tokens)?;
-        self.index.spell(tokens)?;
-        self.if_not_exists.spell(tokens)?;
-        self.name.spell(tokens)?;
-        self.on.spell(tokens)?;
-        self.table.spell(tokens)?;
-        self.indexeds.spell(tokens)?;
-        self.filter.spell(tokens)
+        spell_all!(
+            tokens; self.create, self.unique, self.index, self.if_not_exists, self.name, self.on,
+            self.table, self.indexeds, self.filter
+        )
     }
 }
 
@@ -67,13 +62,10 @@ impl Spelled for CreateView {
     ghost spelled = { create_view_tokens };
 
     fn spell(&self, tokens: &mut Vec<Token>) -> Result<(), AllocError> {
-        self.create.spell(tokens)?;
-        self.view.spell(tokens)?;
-        self.if_not_exists.spell(tokens)?;
-        self.name.spell(tokens)?;
-        self.columns.spell(tokens)?;
-        self.as_word.spell(tokens)?;
-        self.select.spell(tokens)
+        spell_all!(
+            tokens; self.create, self.view, self.if_not_exists, self.name, self.columns,
+            self.as_word, self.select
+        )
     }
 }
 

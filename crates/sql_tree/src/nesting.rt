@@ -1,6 +1,6 @@
 //! How deep the parentheses and the CASEs of a text are nested.
 
-ghost use Rattle.std.specs.Prelude.{◌≡◌, ℕ, [], ◌∷◌, length, reverse, take, IfOk, IfSome, OnOk};
+ghost use Rattle.std.specs.Prelude.{◌≡◌, ℕ, [], length, reverse, take, IfOk, IfSome, OnOk};
 ghost use Rattle.std.specs.Option.{option_map};
 ghost use Rattle.sql_token.specs.Token.{span};
 ghost use Rattle.sql_tree.specs.Nesting.{FirstTooDeep, IsFoundAt, around, closed, effect_of, effect_of_sign, effect_of_word, ended, turned};

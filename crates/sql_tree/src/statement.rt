@@ -2,7 +2,7 @@
 
 use crate::conflict::OrAction;
 use crate::table::Indexed;
-use sql_expr::{After, Commas, Expr, InParens, Select, Sources, Spelled};
+use sql_expr::{After, Commas, Expr, InParens, Select, Sources, Spelled, spell_all};
 use sql_token::Token;
 use sqlite_items::Items;
 use std::alloc::AllocError;
@@ -43,9 +43,7 @@ impl Spelled for Assignment {
     ghost spelled = { assignment_tokens };
 
     fn spell(&self, tokens: &mut Vec<Token>) -> Result<(), AllocError> {
-        self.target.spell(tokens)?;
-        self.equals.spell(tokens)?;
-        self.value.spell(tokens)
+        spell_all!(tokens; self.target, self.equals, self.value)
     }
 }
 
@@ -62,8 +60,7 @@ impl Spelled for Sets {
     ghost spelled = { sets_tokens };
 
     fn spell(&self, tokens: &mut Vec<Token>) -> Result<(), AllocError> {
-        self.set.spell(tokens)?;
-        self.assignments.spell(tokens)
+        spell_all!(tokens; self.set, self.assignments)
     }
 }
 
@@ -80,8 +77,7 @@ impl Spelled for UpsertTarget {
     ghost spelled = { upsert_target_tokens };
 
     fn spell(&self, tokens: &mut Vec<Token>) -> Result<(), AllocError> {
-        self.indexeds.spell(tokens)?;
-        self.filter.spell(tokens)
+        spell_all!(tokens; self.indexeds, self.filter)
     }
 }
 
@@ -110,11 +106,7 @@ impl Spelled for UpsertAction {
                 update,
                 sets,
                 filter,
-            } => {
-                update.spell(tokens)?;
-                sets.spell(tokens)?;
-                filter.spell(tokens)
-            }
+            } => spell_all!(tokens; update, sets, filter),
         }
     }
 }
@@ -135,11 +127,7 @@ impl Spelled for Upsert {
     ghost spelled = { upsert_tokens };
 
     fn spell(&self, tokens: &mut Vec<Token>) -> Result<(), AllocError> {
-        self.on.spell(tokens)?;
-        self.conflict.spell(tokens)?;
-        self.target.spell(tokens)?;
-        self.do_word.spell(tokens)?;
-        self.action.spell(tokens)
+        spell_all!(tokens; self.on, self.conflict, self.target, self.do_word, self.action)
     }
 }
 
@@ -159,10 +147,7 @@ impl Spelled for InsertVerb {
 
     fn spell(&self, tokens: &mut Vec<Token>) -> Result<(), AllocError> {
         match self {
-            InsertVerb::Insert { insert, or } => {
-                insert.spell(tokens)?;
-                or.spell(tokens)
-            }
+            InsertVerb::Insert { insert, or } => spell_all!(tokens; insert, or),
             InsertVerb::Replace(part) => part.spell(tokens),
         }
     }
@@ -185,12 +170,7 @@ impl Spelled for Update {
     ghost spelled = { update_tokens };
 
     fn spell(&self, tokens: &mut Vec<Token>) -> Result<(), AllocError> {
-        self.update.spell(tokens)?;
-        self.or.spell(tokens)?;
-        self.name.spell(tokens)?;
-        self.sets.spell(tokens)?;
-        self.from.spell(tokens)?;
-        self.filter.spell(tokens)
+        spell_all!(tokens; self.update, self.or, self.name, self.sets, self.from, self.filter)
     }
 }
 
@@ -211,12 +191,7 @@ impl Spelled for Insert {
     ghost spelled = { insert_tokens };
 
     fn spell(&self, tokens: &mut Vec<Token>) -> Result<(), AllocError> {
-        self.verb.spell(tokens)?;
-        self.into.spell(tokens)?;
-        self.name.spell(tokens)?;
-        self.columns.spell(tokens)?;
-        self.select.spell(tokens)?;
-        self.upserts.spell(tokens)
+        spell_all!(tokens; self.verb, self.into, self.name, self.columns, self.select, self.upserts)
     }
 }
 
@@ -235,10 +210,7 @@ impl Spelled for Delete {
     ghost spelled = { delete_tokens };
 
     fn spell(&self, tokens: &mut Vec<Token>) -> Result<(), AllocError> {
-        self.delete.spell(tokens)?;
-        self.from.spell(tokens)?;
-        self.name.spell(tokens)?;
-        self.filter.spell(tokens)
+        spell_all!(tokens; self.delete, self.from, self.name, self.filter)
     }
 }
 

@@ -1,7 +1,9 @@
 //! Tables: columns, constraints and options.
 
 use crate::conflict::{Conflict, References};
-use sql_expr::{ColumnType, Commas, Expr, InParens, Literal, Spelled, TokenPair, tokens_of};
+use sql_expr::{
+    ColumnType, Commas, Expr, InParens, Literal, Spelled, TokenPair, spell_all, tokens_of,
+};
 use sql_token::Token;
 use sqlite_items::Items;
 use std::alloc::{AllocError, Global};
@@ -22,10 +24,7 @@ impl Spelled for TableOption {
 
     fn spell(&self, tokens: &mut Vec<Token>) -> Result<(), AllocError> {
         match self {
-            TableOption::WithoutRowid { without, rowid } => {
-                without.spell(tokens)?;
-                rowid.spell(tokens)
-            }
+            TableOption::WithoutRowid { without, rowid } => spell_all!(tokens; without, rowid),
             TableOption::Strict(part) => part.spell(tokens),
         }
     }
@@ -52,10 +51,7 @@ impl Spelled for DefaultValue {
 
     fn spell(&self, tokens: &mut Vec<Token>) -> Result<(), AllocError> {
         match self {
-            DefaultValue::Literal { sign, literal } => {
-                sign.spell(tokens)?;
-                literal.spell(tokens)
-            }
+            DefaultValue::Literal { sign, literal } => spell_all!(tokens; sign, literal),
             DefaultValue::Name(part) => part.spell(tokens),
             DefaultValue::Expr(part) => part.spell(tokens),
         }
@@ -75,8 +71,7 @@ impl Spelled for Indexed {
     ghost spelled = { indexed_tokens };
 
     fn spell(&self, tokens: &mut Vec<Token>) -> Result<(), AllocError> {
-        self.expr.spell(tokens)?;
-        self.direction.spell(tokens)
+        spell_all!(tokens; self.expr, self.direction)
     }
 }
 
@@ -140,60 +135,30 @@ impl Spelled for ColumnCons {
 
     fn spell(&self, tokens: &mut Vec<Token>) -> Result<(), AllocError> {
         match self {
-            ColumnCons::Constraint { constraint, name } => {
-                constraint.spell(tokens)?;
-                name.spell(tokens)
-            }
+            ColumnCons::Constraint { constraint, name } => spell_all!(tokens; constraint, name),
             ColumnCons::PrimaryKey {
                 primary,
                 key,
                 direction,
                 conflict,
                 autoincrement,
-            } => {
-                primary.spell(tokens)?;
-                key.spell(tokens)?;
-                direction.spell(tokens)?;
-                conflict.spell(tokens)?;
-                autoincrement.spell(tokens)
-            }
+            } => spell_all!(tokens; primary, key, direction, conflict, autoincrement),
             ColumnCons::Null {
                 not,
                 null,
                 conflict,
-            } => {
-                not.spell(tokens)?;
-                null.spell(tokens)?;
-                conflict.spell(tokens)
-            }
-            ColumnCons::Unique { unique, conflict } => {
-                unique.spell(tokens)?;
-                conflict.spell(tokens)
-            }
-            ColumnCons::Check { check, expr } => {
-                check.spell(tokens)?;
-                expr.spell(tokens)
-            }
-            ColumnCons::Default { default, value } => {
-                default.spell(tokens)?;
-                value.spell(tokens)
-            }
-            ColumnCons::Collate { collate, name } => {
-                collate.spell(tokens)?;
-                name.spell(tokens)
-            }
+            } => spell_all!(tokens; not, null, conflict),
+            ColumnCons::Unique { unique, conflict } => spell_all!(tokens; unique, conflict),
+            ColumnCons::Check { check, expr } => spell_all!(tokens; check, expr),
+            ColumnCons::Default { default, value } => spell_all!(tokens; default, value),
+            ColumnCons::Collate { collate, name } => spell_all!(tokens; collate, name),
             ColumnCons::References(part) => part.spell(tokens),
             ColumnCons::Generated {
                 generated,
                 as_word,
                 expr,
                 storage,
-            } => {
-                generated.spell(tokens)?;
-                as_word.spell(tokens)?;
-                expr.spell(tokens)?;
-                storage.spell(tokens)
-            }
+            } => spell_all!(tokens; generated, as_word, expr, storage),
         }
     }
 }
@@ -212,9 +177,7 @@ impl Spelled for Column {
     ghost spelled = { column_tokens };
 
     fn spell(&self, tokens: &mut Vec<Token>) -> Result<(), AllocError> {
-        self.name.spell(tokens)?;
-        self.column_type.spell(tokens)?;
-        self.constraints.spell(tokens)
+        spell_all!(tokens; self.name, self.column_type, self.constraints)
     }
 }
 
@@ -276,10 +239,7 @@ impl Spelled for TableCons {
 
     fn spell(&self, tokens: &mut Vec<Token>) -> Result<(), AllocError> {
         match self {
-            TableCons::Constraint { constraint, name } => {
-                constraint.spell(tokens)?;
-                name.spell(tokens)
-            }
+            TableCons::Constraint { constraint, name } => spell_all!(tokens; constraint, name),
             TableCons::PrimaryKey {
                 primary,
                 key,
@@ -288,44 +248,25 @@ impl Spelled for TableCons {
                 autoincrement,
                 closing,
                 conflict,
-            } => {
-                primary.spell(tokens)?;
-                key.spell(tokens)?;
-                opening.spell(tokens)?;
-                indexeds.spell(tokens)?;
-                autoincrement.spell(tokens)?;
-                closing.spell(tokens)?;
-                conflict.spell(tokens)
-            }
+            } => spell_all!(
+                tokens; primary, key, opening, indexeds, autoincrement, closing, conflict
+            ),
             TableCons::Unique {
                 unique,
                 indexeds,
                 conflict,
-            } => {
-                unique.spell(tokens)?;
-                indexeds.spell(tokens)?;
-                conflict.spell(tokens)
-            }
+            } => spell_all!(tokens; unique, indexeds, conflict),
             TableCons::Check {
                 check,
                 expr,
                 conflict,
-            } => {
-                check.spell(tokens)?;
-                expr.spell(tokens)?;
-                conflict.spell(tokens)
-            }
+            } => spell_all!(tokens; check, expr, conflict),
             TableCons::ForeignKey {
                 foreign,
                 key,
                 names,
                 references,
-            } => {
-                foreign.spell(tokens)?;
-                key.spell(tokens)?;
-                names.spell(tokens)?;
-                references.spell(tokens)
-            }
+            } => spell_all!(tokens; foreign, key, names, references),
         }
     }
 }
@@ -343,8 +284,7 @@ impl Spelled for NextTableCons {
     ghost spelled = { next_table_cons_tokens };
 
     fn spell(&self, tokens: &mut Vec<Token>) -> Result<(), AllocError> {
-        self.comma.spell(tokens)?;
-        self.constraint.spell(tokens)
+        spell_all!(tokens; self.comma, self.constraint)
     }
 }
 
@@ -362,9 +302,7 @@ impl Spelled for TableConstraints {
     ghost spelled = { table_constraints_tokens };
 
     fn spell(&self, tokens: &mut Vec<Token>) -> Result<(), AllocError> {
-        self.comma.spell(tokens)?;
-        self.first.spell(tokens)?;
-        self.more.spell(tokens)
+        spell_all!(tokens; self.comma, self.first, self.more)
     }
 }
 
@@ -381,8 +319,7 @@ impl Spelled for TableBody {
     ghost spelled = { table_body_tokens };
 
     fn spell(&self, tokens: &mut Vec<Token>) -> Result<(), AllocError> {
-        self.columns.spell(tokens)?;
-        self.constraints.spell(tokens)
+        spell_all!(tokens; self.columns, self.constraints)
     }
 }
 
@@ -400,9 +337,7 @@ impl Spelled for IfNotExists {
     ghost spelled = { if_not_exists_tokens };
 
     fn spell(&self, tokens: &mut Vec<Token>) -> Result<(), AllocError> {
-        self.if_word.spell(tokens)?;
-        self.not.spell(tokens)?;
-        self.exists.spell(tokens)
+        spell_all!(tokens; self.if_word, self.not, self.exists)
     }
 }
 
@@ -423,12 +358,9 @@ impl Spelled for CreateTable {
     ghost spelled = { create_table_tokens };
 
     fn spell(&self, tokens: &mut Vec<Token>) -> Result<(), AllocError> {
-        self.create.spell(tokens)?;
-        self.table.spell(tokens)?;
-        self.if_not_exists.spell(tokens)?;
-        self.name.spell(tokens)?;
-        self.body.spell(tokens)?;
-        self.options.spell(tokens)
+        spell_all!(
+            tokens; self.create, self.table, self.if_not_exists, self.name, self.body, self.options
+        )
     }
 }
 

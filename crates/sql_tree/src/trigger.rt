@@ -2,7 +2,7 @@
 
 use crate::statement::Statement;
 use crate::table::IfNotExists;
-use sql_expr::{After, Commas, Expr, Object, Spelled, TokenPair, tokens_of};
+use sql_expr::{After, Commas, Expr, Object, Spelled, TokenPair, spell_all, tokens_of};
 use sql_token::Token;
 use sqlite_items::Items;
 use std::alloc::{AllocError, Global};
@@ -55,10 +55,7 @@ impl Spelled for TriggerEvent {
         match self {
             TriggerEvent::Delete(part) => part.spell(tokens),
             TriggerEvent::Insert(part) => part.spell(tokens),
-            TriggerEvent::Update { update, columns } => {
-                update.spell(tokens)?;
-                columns.spell(tokens)
-            }
+            TriggerEvent::Update { update, columns } => spell_all!(tokens; update, columns),
         }
     }
 }
@@ -77,9 +74,7 @@ impl Spelled for ForEachRow {
     ghost spelled = { for_each_row_tokens };
 
     fn spell(&self, tokens: &mut Vec<Token>) -> Result<(), AllocError> {
-        self.for_word.spell(tokens)?;
-        self.each.spell(tokens)?;
-        self.row.spell(tokens)
+        spell_all!(tokens; self.for_word, self.each, self.row)
     }
 }
 
@@ -100,12 +95,9 @@ impl Spelled for TriggerHead {
     ghost spelled = { trigger_head_tokens };
 
     fn spell(&self, tokens: &mut Vec<Token>) -> Result<(), AllocError> {
-        self.time.spell(tokens)?;
-        self.event.spell(tokens)?;
-        self.on.spell(tokens)?;
-        self.object.spell(tokens)?;
-        self.for_each_row.spell(tokens)?;
-        self.condition.spell(tokens)
+        spell_all!(
+            tokens; self.time, self.event, self.on, self.object, self.for_each_row, self.condition
+        )
     }
 }
 
@@ -122,8 +114,7 @@ impl Spelled for EndedStatement {
     ghost spelled = { ended_statement_tokens };
 
     fn spell(&self, tokens: &mut Vec<Token>) -> Result<(), AllocError> {
-        self.statement.spell(tokens)?;
-        self.semicolon.spell(tokens)
+        spell_all!(tokens; self.statement, self.semicolon)
     }
 }
 
@@ -148,15 +139,10 @@ impl Spelled for CreateTrigger {
     ghost spelled = { create_trigger_tokens };
 
     fn spell(&self, tokens: &mut Vec<Token>) -> Result<(), AllocError> {
-        self.create.spell(tokens)?;
-        self.trigger.spell(tokens)?;
-        self.if_not_exists.spell(tokens)?;
-        self.name.spell(tokens)?;
-        self.head.spell(tokens)?;
-        self.begin.spell(tokens)?;
-        self.first.spell(tokens)?;
-        self.more.spell(tokens)?;
-        self.end.spell(tokens)
+        spell_all!(
+            tokens; self.create, self.trigger, self.if_not_exists, self.name, self.head, self.begin,
+            self.first, self.more, self.end
+        )
     }
 }
 
