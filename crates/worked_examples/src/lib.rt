@@ -1,11 +1,11 @@
-//! Whole runs of the program over all of its crates. It has tests alone.
+//! Whole runs of the program, and whole texts, over all of its crates. It has tests alone.
 #![tactic(auto)]
 
 #[cfg(test)]
 mod nesting;
 #[cfg(test)]
+mod rows;
+#[cfg(test)]
 mod several;
 #[cfg(test)]
 mod tests;
-#[cfg(test)]
-mod trees;
