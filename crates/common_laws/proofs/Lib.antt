@@ -1,0 +1,5 @@
+pub mod Each
+pub mod Lists
+pub mod Options
+pub mod Pairs
+pub mod Places
