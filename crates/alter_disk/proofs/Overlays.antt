@@ -4,7 +4,7 @@ use Rattle.std.proofs.lemmas.Bool.{cases_lt}
 use Rattle.std.proofs.lemmas.Grind.{common_steps}
 use Rattle.std.proofs.lemmas.List.{take-append-le, take-replicate, drop_all}
 use Rattle.std.proofs.Math.Seq.{take-append-add}
-use Rattle.alter_disk.specs.Changes.{overlaid}
+use Rattle.alter_disk.specs.Changes.{overwritten}
 
 -- the front of what is followed by zeros, up to one of them
 take-past : (old : List ℕ) (k m : ℕ) → k ≤ m → take (length old + k) (old ++ replicate m 0) ≡ old ++ replicate k 0
@@ -34,5 +34,5 @@ drop-filled old end = elim (cases_lt (length old) end) [
 
 -- a piece written into bytes that reach to its end
 pub written_filled : (old piece : List ℕ) (at : ℕ) →
-    take at (old ++ replicate (at + length piece - length old) 0) ++ piece ++ drop (at + length piece) (old ++ replicate (at + length piece - length old) 0) ≡ overlaid old at piece
+    take at (old ++ replicate (at + length piece - length old) 0) ++ piece ++ drop (at + length piece) (old ++ replicate (at + length piece - length old) 0) ≡ overwritten old at piece
 written_filled old piece at = ap₂ (λ front behind. front ++ piece ++ behind) (take-filled old at (at + length piece) (omega arith)) (drop-filled old (at + length piece))

@@ -18,12 +18,12 @@ pub record Gives (bytes : List ℕ) (n : ℕ) (before after : List ℕ) : Type 0
   pub buffer : after ≡ take n bytes ++ drop n before
 
 -- the bytes with a piece written at `at`, and zeros between the old end and a place past it
-abbrev pub overlaid : List ℕ → ℕ → List ℕ → List ℕ
-overlaid old at piece = take at (old ++ replicate (at - length old) 0) ++ piece ++ drop (at + length piece) old
+abbrev pub overwritten : List ℕ → ℕ → List ℕ → List ℕ
+overwritten old at piece = take at (old ++ replicate (at - length old) 0) ++ piece ++ drop (at + length piece) old
 
 -- one file has the piece at `at`, and the other is the same
 abbrev pub Written : Which → ℕ → List ℕ → Option Files → Option Files → Type 0
-Written which at piece old new = new ≡ option_map (λ f. with_file which (overlaid (file which f) at piece) f) old
+Written which at piece old new = new ≡ option_map (λ f. with_file which (overwritten (file which f) at piece) f) old
 
 -- one file has its first `len` bytes alone, and the other is the same
 abbrev pub CutTo : Which → ℕ → Option Files → Option Files → Type 0

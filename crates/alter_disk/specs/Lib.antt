@@ -4,5 +4,7 @@ pub mod Collected
 pub mod Faults
 pub mod Files
 pub mod Memory
+pub mod Outside
 pub mod Rest
 pub mod Untold
+pub mod Uses

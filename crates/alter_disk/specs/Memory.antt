@@ -4,7 +4,7 @@ use Rattle.alter_disk.specs.declared.way.Way.{Way}
 use Rattle.alter_disk.specs.declared.way.Way.TheVariants.{Read, Write}
 use Rattle.alter_disk.specs.declared.which.Which.{Which}
 use Rattle.alter_disk.specs.Files.{Files, file, with_file}
-use Rattle.alter_disk.specs.Changes.{overlaid}
+use Rattle.alter_disk.specs.Changes.{overwritten}
 use Rattle.alter_disk.specs.Calls.{raised, is_listed}
 
 pub record Memory : Type 0 where
@@ -68,7 +68,7 @@ with_bytes which bytes m = record m { files = with_file which bytes m.files }
 abbrev pub after_write : Which → ℕ → List ℕ → Memory → Memory
 after_write which at piece m =
     let failed = refuses_write at (length piece) m in
-    if failed then counted Write failed m else with_bytes which (overlaid (file which m.files) at piece) (counted Write failed m)
+    if failed then counted Write failed m else with_bytes which (overwritten (file which m.files) at piece) (counted Write failed m)
 
 -- the disk after a cut, which changes no file where it failed
 abbrev pub after_cut : Which → ℕ → Memory → Memory

@@ -30,7 +30,7 @@ pub trait Disk: Drop {
     ghost write_faults: { Self → ℕ };
 
     /// Opens the database `name`, which has to be there, and its journal, which is made empty where it
-    /// is missing. It comes once, before all other calls.
+    /// is missing, durably. It comes once, before all other calls, which ask for it.
     fn open(&mut self, name: &str) -> Result<(), OpenFault>
         requires first { called self.old ≡ false }
         requires name { IfSome (label self.old) (λ known. name.now ≡ known) }
@@ -43,6 +43,7 @@ pub trait Disk: Drop {
 
     /// The length of a file.
     fn len(&mut self, which: Which) -> Result<u64, Failed>
+        requires { called self.old ≡ true }
         ensures len { IfOk result (λ n. IfTold (files self.old) (λ f. n ≡ length (file which f))) }
         ensures files { files self.new ≡ files self.old }
         ensures rest { KeepsRest label called opened write_faults self.old self.new }
@@ -51,16 +52,19 @@ pub trait Disk: Drop {
     /// Reads from `at` on, and answers how many bytes came: fewer than asked only at the file's end.
     /// After a fault the buffer may hold anything.
     fn read(&mut self, which: Which, at: u64, buf: &mut [u8]) -> Result<usize, Failed>
-        requires { (at ≤ 2 ^ 30) ⊎ IsSomeAnd (files self.old) (λ f. at ≤ length (file which f)) }
+        requires called { called self.old ≡ true }
+        requires place { (at ≤ 2 ^ 30) ⊎ IsSomeAnd (files self.old) (λ f. at ≤ length (file which f)) }
         ensures count { IfOk result (λ n. n ≤ length buf.old) }
         ensures read { IfOk result (λ n. IfTold (files self.old) (λ f. ReadsAt (file which f) at n buf.old buf.new)) }
         ensures files { files self.new ≡ files self.old }
         ensures rest { KeepsRest label called opened write_faults self.old self.new }
         ensures cause { HasCause (read_faults self.old) (read_faults self.new) result };
 
-    /// Writes over what is there and past the end. Between the old end and `at` there are zeros then.
+    /// Writes over what is there and past the end. Between the old end and `at` there are zeros then, also
+    /// where the piece is empty.
     fn write(&mut self, which: Which, at: u64, bytes: &[u8]) -> Result<(), Failed>
-        requires { at + length bytes.now ≤ 2 ^ 30 }
+        requires called { called self.old ≡ true }
+        requires place { at + length bytes.now ≤ 2 ^ 30 }
         ensures written { OnOk result (Written which at bytes.now (files self.old) (files self.new)) }
         ensures torn { OnErr result (TornIn which at (length bytes.now) (files self.old) (files self.new)) }
         ensures rest { KeepsRest label called opened read_faults self.old self.new }
@@ -68,7 +72,8 @@ pub trait Disk: Drop {
 
     /// Shortens a file to `len` bytes.
     fn cut(&mut self, which: Which, len: u64) -> Result<(), Failed>
-        requires { IfTold (files self.old) (λ f. len ≤ length (file which f)) }
+        requires called { called self.old ≡ true }
+        requires shorter { IfTold (files self.old) (λ f. len ≤ length (file which f)) }
         ensures cut { OnOk result (CutTo which len (files self.old) (files self.new)) }
         ensures torn { OnErr result (CutIn which len (files self.old) (files self.new)) }
         ensures rest { KeepsRest label called opened read_faults self.old self.new }
@@ -76,6 +81,7 @@ pub trait Disk: Drop {
 
     /// Makes durable what a read gives of this file.
     fn sync(&mut self, which: Which) -> Result<(), Failed>
+        requires { called self.old ≡ true }
         ensures files { files self.new ≡ files self.old }
         ensures rest { KeepsRest label called opened read_faults self.old self.new }
         ensures cause { HasCause (write_faults self.old) (write_faults self.new) result };

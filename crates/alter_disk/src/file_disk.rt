@@ -75,7 +75,7 @@ impl<R: Files<File = File> + AllocGlobal + Drop> Disk for FileDisk<R> {
         self.is_open = false;
         let journal_name = journal_name(self.rt.alloc(), name)?;
         let db = counted(open_file(&self.rt, name, false), &mut self.read_faults)?;
-        let journal = open_file(&self.rt, journal_name.as_str(), true);
+        let journal = open_journal(&self.rt, journal_name.as_str());
         self.journal = Some(counted(journal, &mut self.read_faults)?);
         self.db = Some(db);
         self.is_open = true;
@@ -126,6 +126,29 @@ fn open_file<R: Files<File = File>>(rt: &R, name: &str, makes: bool) -> io::Resu
         .open(rt, name)
 }
 
+/// Opens the journal. One that is missing is made, and its new name made durable: its folder is synced
+/// (atomiccommit.html).
+fn open_journal<R: Files<File = File>>(rt: &R, name: &str) -> io::Result<File> {
+    match open_file(rt, name, false) {
+        Ok(file) => Ok(file),
+        Err(fault) if fault.kind() != io::ErrorKind::NotFound => Err(fault),
+        Err(_) => {
+            let file = open_file(rt, name, true)?;
+            File::open(rt, folder_of(name))?.sync_all()?;
+            Ok(file)
+        }
+    }
+}
+
+/// The folder of a file of this name.
+fn folder_of(name: &str) -> &str {
+    match name.rsplit_once('/') {
+        Some((folder, _)) if folder.is_empty() => "/",
+        Some((folder, _)) => folder,
+        None => ".",
+    }
+}
+
 /// The file, or an error where none was opened.
 fn present(file: Option<&File>) -> io::Result<&File> {
     file.ok_or(io::ErrorKind::NotFound.into())
@@ -151,9 +174,14 @@ fn read_from(file: Option<&File>, at: u64, buf: &mut [u8]) -> io::Result<usize>
     Ok(count)
 }
 
-/// Writes on until all bytes are written. A write that takes none is an error.
+/// Writes on until all bytes are written. A write that takes none is an error. No bytes past the end make
+/// the file as long as their place.
 fn write_to(file: Option<&File>, at: u64, bytes: &[u8]) -> io::Result<()> {
-    present(file)?.write_all_at(bytes, at)
+    let file = present(file)?;
+    if bytes.is_empty() && file.metadata()?.len() < at {
+        return file.set_len(at);
+    }
+    file.write_all_at(bytes, at)
 }
 
 fn cut(file: Option<&File>, len: u64) -> io::Result<()> {

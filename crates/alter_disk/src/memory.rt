@@ -1,7 +1,7 @@
 //! A disk in memory, whose failures its maker chooses.
 ghost use Rattle.std.specs.Prelude.{◌≡◌, ◌+◌, ◌^◌, ◌≤◌, ◌||◌, false, Some, ◌-◌, ◌++◌, length, take, drop, replicate, is_err, vec_len, vec_capacity, string_bytes, IfOk, IfErr};
 ghost use Rattle.alter_disk.specs.Files.{file};
-ghost use Rattle.alter_disk.specs.Changes.{ReadsAt, overlaid};
+ghost use Rattle.alter_disk.specs.Changes.{ReadsAt, overwritten};
 ghost use Rattle.alter_disk.specs.Memory.{Memory, IsReserved, fresh, refuses, refuses_write, counted, after_open, after_call, with_bytes, after_write, after_cut};
 
 use crate::copy::copy_front;
@@ -107,7 +107,7 @@ impl MemoryDisk {
 
     fn overlay(&mut self, which: Which, at: usize, piece: &[u8])
         requires { at + length piece.now ≤ self.old.room }
-        ensures { self.new ≡ with_bytes which (overlaid (file which self.old.files) at piece.now) self.old }
+        ensures { self.new ≡ with_bytes which (overwritten (file which self.old.files) at piece.now) self.old }
     {
         match which {
             Which::Db => overlay(&mut self.db, at, piece),
@@ -231,7 +231,7 @@ fn write_at(bytes: &mut [u8], at: usize, piece: &[u8])
 /// Writes a piece within what the buffer has reserved.
 fn overlay(buffer: &mut Vec<u8>, at: usize, piece: &[u8])
     requires { at + length piece.now ≤ vec_capacity buffer.old }
-    ensures written { buffer.new.items ≡ overlaid buffer.old.items at piece.now }
+    ensures written { buffer.new.items ≡ overwritten buffer.old.items at piece.now }
     ensures room { vec_capacity buffer.old ≤ vec_capacity buffer.new }
 {
     fill(buffer, at + piece.len());

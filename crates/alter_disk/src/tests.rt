@@ -70,8 +70,22 @@ fn a_file_disk_writes_cuts_and_reads(rt: HostRuntime) -> Result<(), Fail> {
     let mut buf = [7; 5];
     assert_eq!(rt; disk.read(Which::Db, 3, &mut buf)?, 4);
     assert_eq!(rt; buf, [b'd', 0, 0, b'x', 7]);
+    disk.write(Which::Db, 9, b"")?;
+    assert_eq!(rt; disk.len(Which::Db)?, 9);
     fs::remove_file(&rt, "alter_disk_test.db")?;
     fs::remove_file(&rt, "alter_disk_test.db-journal")?;
+    Ok(())
+}
+
+#[test]
+fn a_journal_is_made_in_the_folder_of_its_database(rt: HostRuntime) -> Result<(), Fail> {
+    fs::create_dir(&rt, "alter_disk_folder")?;
+    fs::write(&rt, "alter_disk_folder/a.db", "")?;
+    let mut disk = FileDisk::new(rt.clone()?);
+    disk.open("alter_disk_folder/a.db")?;
+    fs::remove_file(&rt, "alter_disk_folder/a.db-journal")?;
+    fs::remove_file(&rt, "alter_disk_folder/a.db")?;
+    fs::remove_dir(&rt, "alter_disk_folder")?;
     Ok(())
 }
 
