@@ -1,2 +1,3 @@
-pub mod Lists
+pub mod Bounds
+pub mod Fields
 pub mod VarintLemmas

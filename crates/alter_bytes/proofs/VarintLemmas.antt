@@ -7,7 +7,7 @@ use Rattle.std.proofs.lemmas.List.{drop-append-le, drop-drop, drop-set, drop_at,
 use Rattle.std.proofs.lemmas.List.Elements.{All-cons, All-contains, All-head, All-nil, All-push, All-tail, Contains-push}
 use Rattle.std.specs.List.{All}
 use Rattle.alter_bytes.specs.Varint.{IsLongVarint, IsShortVarint, IsVarint, higher_septets, septet_bytes, septets, varint, varint_at, varint_from}
-use Rattle.alter_bytes.proofs.Lists.{drop_front, same_front}
+use Rattle.common_laws.proofs.Lists.{drop_front, same_front}
 
 -- a byte goes on
 abbrev pub GoesOn : ℕ → Type 0
@@ -462,3 +462,20 @@ varint_at-append bytes rest at v n read =
 
 pub varint_at-drop : (bytes : List ℕ) (i j : ℕ) → varint_at (drop i bytes) j ≡ varint_at bytes (i + j)
 varint_at-drop bytes i j = ap (varint_from 8 0) (drop-drop j i bytes)
+
+-- a varint that stands at a place is the one that is read there, and what is read there stands there
+pub varint_at-form : (bytes : List ℕ) (at n v : ℕ) → at + n ≤ length bytes → IsVarint (take n (drop at bytes)) v → varint_at bytes at ≡ Some (v, n)
+varint_at-form bytes at n v within form =
+    let size : length (take n (drop at bytes)) ≡ n = length-take-le n (drop at bytes) (omega (arith, within, length-drop at bytes)) in
+    ap (varint_from 8 0) (sym (take-append-drop n (drop at bytes)))
+    ∙ varint_from-form (take n (drop at bytes)) v (drop n (drop at bytes)) form ∙ ap (λ k. Some (v, k)) size
+
+pub varint_at-reads : (bytes : List ℕ) (at v n : ℕ) → varint_at bytes at ≡ Some (v, n) → Reads (drop at bytes) v n × (at + n ≤ length bytes)
+varint_at-reads bytes at v n read =
+    let r = varint_from-reads (drop at bytes) v n read in
+    (r, omega (arith, r.some, r.within, length-drop at bytes))
+
+-- a number of seven bits is a varint of one byte
+pub varint-one : (v : ℕ) → v < 128 → IsVarint (v ∷ []) v
+varint-one v small =
+    inl (record { front = []; last = v; whole = refl; few = omega arith; continued = All-nil (λ b. 128 ≤ b); ended = small; value = omega arith })

@@ -1,8 +1,24 @@
-ghost use Rattle.std.specs.Prelude.{◌≡◌, ◌≤◌, ◌+◌, length};
-ghost use Rattle.byteorder.specs.Endian.{big_bytes};
+ghost use Rattle.std.specs.Prelude.{◌≡◌, ◌≤◌, ◌+◌, length, drop};
+ghost use Rattle.byteorder.specs.Endian.{big_bytes, big_number};
 ghost use Rattle.alter_bytes.specs.Field.{field_at, overlaid};
 
 use byteorder::{BigEndian, ByteOrder};
+
+/// The big-endian number in the two bytes from `at`.
+pub fn u16_at(b: &[u8], at: usize) -> u16
+    requires { at + 2 ≤ length b.now }
+    ensures { result ≡ big_number 2 (drop at b.now) }
+{
+    BigEndian::read_u16(&b[at..])
+}
+
+/// The big-endian number in the four bytes from `at`.
+pub fn u32_at(b: &[u8], at: usize) -> u32
+    requires { at + 4 ≤ length b.now }
+    ensures { result ≡ big_number 4 (drop at b.now) }
+{
+    BigEndian::read_u32(&b[at..])
+}
 
 /// The big-endian number in the two bytes from `at`, or `None` where fewer stand there.
 pub fn read_u16(b: &[u8], at: usize) -> Option<u16>
@@ -12,7 +28,7 @@ pub fn read_u16(b: &[u8], at: usize) -> Option<u16>
     if rest.len() < 2 {
         return None;
     }
-    Some(BigEndian::read_u16(rest))
+    Some(u16_at(b, at))
 }
 
 /// The big-endian number in the four bytes from `at`, or `None` where fewer stand there.
@@ -23,7 +39,7 @@ pub fn read_u32(b: &[u8], at: usize) -> Option<u32>
     if rest.len() < 4 {
         return None;
     }
-    Some(BigEndian::read_u32(rest))
+    Some(u32_at(b, at))
 }
 
 /// Writes `v` big-endian into the two bytes from `at`.

@@ -7,6 +7,8 @@ fn fields_are_big_endian(rt: HostRuntime) -> Result<(), Fail> {
     write_u16(&mut bytes, 0, 0x1234);
     write_u32(&mut bytes, 2, 0x5678_9abc);
     assert_eq!(rt; bytes, [0x12, 0x34, 0x56, 0x78, 0x9a, 0xbc]);
+    assert_eq!(rt; u16_at(&bytes, 1), 0x3456);
+    assert_eq!(rt; u32_at(&bytes, 2), 0x5678_9abc);
     assert_eq!(rt; read_u16(&bytes, 4), Some(0x9abc));
     assert_eq!(rt; read_u16(&bytes, 5), None);
     assert_eq!(rt; read_u32(&bytes, 1), Some(0x3456_789a));
