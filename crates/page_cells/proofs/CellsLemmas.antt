@@ -4,6 +4,7 @@ use Rattle.std.proofs.lemmas.Bool.{cases_lt}
 use Rattle.std.proofs.lemmas.List.{get_or_default, get_or-append_right, get_or-drop, get_or-replicate, get_or-take, get_or_append_left, length-replicate, length-take-le, take-append-le, take_all, take_at}
 use Rattle.std.proofs.lemmas.Option.{slice_get_within}
 use Rattle.std.specs.List.{slice_get}
+use Rattle.common_laws.proofs.Places.{element_at, slice_get-append_left, slice_get-push_cases, slice_get-push_last}
 use Rattle.page_cells.specs.Layout.{cell_count, header_start, pointer, pointers_end}
 use Rattle.page_cells.specs.Cells.{AreCells, FirstFault, HasCells, IsFaultAt, IsNextCell, IsRead, OnBounds, cell_end}
 use Rattle.page_cells.specs.Taken.{IsFault, IsFreeCell, marked}
@@ -14,32 +15,6 @@ use Rattle.page_cells.specs.declared.error.CellError.TheVariants.{Bounds, Kind, 
 use Rattle.page_cells.specs.declared.cell.Cell.{Cell}
 use Rattle.page_cells.specs.declared.cell.PageCells.{PageCells}
 use Rattle.page_cells.proofs.LeafLemmas.{IsLeafCell-nonempty, one_cell}
-
--- an element of a list with one more at its end
-pub slice_get-push_cases : {X : Type 0} (xs : List X) (x y : X) (i : ℕ) → slice_get (xs ++ x ∷ []) i ≡ Some y
-    → (slice_get xs i ≡ Some y) ⊎ ((i ≡ length xs) × (x ≡ y))
-slice_get-push_cases [] x y zero h = inr (refl, cc)
-slice_get-push_cases [] x y (suc i) h = absurd (cc h)
-slice_get-push_cases (a ∷ xs) x y zero h = inl h
-slice_get-push_cases (a ∷ xs) x y (suc i) h = elim (slice_get-push_cases xs x y i h) [
-  | inl e ↦ inl e
-  | inr e ↦ inr (ap suc e.0, e.1)
-]
-
-pub slice_get-append_left : {X : Type 0} (xs ys : List X) (y : X) (i : ℕ) → slice_get xs i ≡ Some y → slice_get (xs ++ ys) i ≡ Some y
-slice_get-append_left [] ys y i h = absurd (cc h)
-slice_get-append_left (a ∷ xs) ys y zero h = h
-slice_get-append_left (a ∷ xs) ys y (suc i) h = slice_get-append_left xs ys y i h
-
-pub slice_get-push_last : {X : Type 0} (xs : List X) (x : X) → slice_get (xs ++ x ∷ []) (length xs) ≡ Some x
-slice_get-push_last [] x = refl
-slice_get-push_last (a ∷ xs) x = slice_get-push_last xs x
-
--- an element in range, and the front of the list with it
-pub element_at : {X : Type 0} (xs : List X) (k : ℕ) → k < length xs → (x : X) × (slice_get xs k ≡ Some x) × (take (suc k) xs ≡ take k xs ++ x ∷ [])
-element_at [] k h = absurd (omega arith)
-element_at (a ∷ xs) zero h = (a, refl, refl)
-element_at (a ∷ xs) (suc k) h = let e = element_at xs k (omega arith) in (e.0, e.1, ap (λ l. a ∷ l) e.2)
 
 -- there is at most one next cell
 pub one_next : (page : List ℕ) (first : Bool) (usable : ℕ) (earlier : List Cell) (c d : Cell)

@@ -1,30 +1,26 @@
 -- What the bytes at a place say of the cell there.
-use Rattle.std.proofs.Common.{◌≡◌, ℕ, ℤ, ◌+◌, ◌≤◌, List, length, take, drop, Option, Some, None, sym, ap, subst, ◌∙◌, arith, length-drop, nat_lt, if◌then◌else◌}
+use Rattle.std.proofs.Common.{◌≡◌, ℕ, ℤ, ◌+◌, ◌≤◌, List, drop, Option, Some, None, sym, ap, subst, ◌∙◌, arith, nat_lt, if◌then◌else◌}
 use Rattle.std.specs.Int.{w64, cast_signed}
 use Rattle.byteorder.specs.Endian.{big_number}
-use Rattle.std.proofs.lemmas.List.{length-take-le, take-append-drop}
-use Rattle.alter_bytes.specs.Varint.{varint_at, varint_from}
-use Rattle.alter_bytes.proofs.VarintLemmas.{same_reading, varint_from-form, varint_from-reads}
+use Rattle.alter_bytes.specs.Varint.{varint_at}
+use Rattle.alter_bytes.proofs.VarintLemmas.{same_reading, varint_at-form, varint_at-reads}
 use Rattle.page_cells.specs.Layout.{local_payload, overflow_size}
 use Rattle.page_cells.specs.Cells.{HasVarint, IsLeafCell, cell_end}
 use Rattle.page_cells.specs.declared.cell.Cell.{Cell}
 
 -- a varint that stands at a place is the one that is read there
 pub HasVarint-read : (page : List ℕ) (at n v : ℕ) → HasVarint page at n v → varint_at page at ≡ Some (v, n)
-HasVarint-read page at n v h =
-    let size : length (take n (drop at page)) ≡ n = length-take-le n (drop at page) (omega (arith, h.within, length-drop at page)) in
-    ap (varint_from 8 0) (sym (take-append-drop n (drop at page)))
-    ∙ varint_from-form (take n (drop at page)) v (drop n (drop at page)) h.form ∙ ap (λ k. Some (v, k)) size
+HasVarint-read page at n v h = varint_at-form page at n v h.within h.form
 
 pub HasVarint-pos : (page : List ℕ) (at n v : ℕ) → HasVarint page at n v → (1 ≤ n) × (n ≤ 9)
 HasVarint-pos page at n v h =
-    let r = varint_from-reads (drop at page) v n (HasVarint-read page at n v h) in
-    (r.some, r.most)
+    let (read, within) = varint_at-reads page at v n (HasVarint-read page at n v h) in
+    (read.some, read.most)
 
 pub read-HasVarint : (page : List ℕ) (at n v : ℕ) → varint_at page at ≡ Some (v, n) → HasVarint page at n v
-read-HasVarint page at n v read =
-    let r = varint_from-reads (drop at page) v n read in
-    record { within = omega (arith, r.some, r.within, length-drop at page); form = r.form }
+read-HasVarint page at n v is =
+    let (read, within) = varint_at-reads page at v n is in
+    record { within = within; form = read.form }
 
 -- a cell has at least two bytes
 pub IsLeafCell-nonempty : (page : List ℕ) (usable at : ℕ) (c : Cell) → IsLeafCell page usable at c → at + 2 ≤ cell_end usable c

@@ -11,26 +11,17 @@ use Rattle.std.specs.List.{All, slice_get}
 use Rattle.byteorder.specs.Endian.{big_bytes, big_number}
 use Rattle.alter_bytes.specs.Field.{overlaid}
 use Rattle.alter_bytes.specs.Varint.{IsVarint}
-use Rattle.alter_bytes.proofs.Lists.{big_number-append, big_number_inside, drop-overlaid, length-big_bytes, same_front}
+use Rattle.common_laws.proofs.Lists.{same_front}
+use Rattle.common_laws.proofs.Places.{slice_get-take}
+use Rattle.alter_bytes.proofs.Fields.{big_number-append, big_number_inside, length-big_bytes, overlaid-behind}
 use Rattle.alter_bytes.proofs.VarintLemmas.{one_form}
+use Rattle.page_cells.proofs.LayoutLemmas.{overflow_size-some}
 use Rattle.page_cells.specs.Cells.{AreCells, HasCells, IsLeafCell, cell_end}
 use Rattle.page_cells.specs.Layout.{IsUsable, cell_count, header_start, local_payload, overflow_size, pointer, pointer_place, pointers_end}
 use Rattle.page_cells.specs.Write.{Fits, HoldsCells, IsWholeCell, cell_bytes, header_bytes, pointer_bytes, room, rooms, written_page}
 use Rattle.page_cells.specs.declared.cell.Cell.{Cell}
 use Rattle.page_cells.specs.declared.cell.PageCells.{PageCells}
 use Rattle.page_cells.specs.declared.kind.Kind.TheVariants.{TableLeaf}
-
--- bytes written behind others that were written are written with them
-pub overlaid-behind : (page : List ℕ) (at : ℕ) (a b : List ℕ) (behind : ℕ) → behind ≡ at + length a → behind ≤ length page
-    → overlaid (overlaid page at a) behind b ≡ overlaid page at (a ++ b)
-overlaid-behind page at a b behind place fits =
-    let front : length (take at page ++ a) ≡ behind = length-append (take at page) a ∙ omega (arith, length-take-le at page (omega arith)) in
-    let before : take behind (overlaid page at a) ≡ take at page ++ a = take_at (take at page ++ a) (drop (at + length a) page) behind front in
-    let after : drop (behind + length b) (overlaid page at a) ≡ drop (behind + length b) page =
-    drop-overlaid page at a (behind + length b) (omega arith) (omega arith) in
-    let len : behind + length b ≡ at + length (a ++ b) = omega (arith, length-append a b) in
-    ap₂ (λ x y. x ++ b ++ y) before (after ∙ ap (λ n. drop n page) len)
-    ∙ ap (λ x. x ++ drop (at + length (a ++ b)) page) (append_assoc (take at page) a b)
 
 -- the bytes that a cell takes
 abbrev pub room_bytes : List ℕ → List ℕ
@@ -439,10 +430,6 @@ overflow_same local payload a b same = elim (cases_lt local payload) [
   | inr all ↦ grind (arith, nat_tests)
 ]
 
-overflow_size-four : (usable payload : ℕ) → local_payload usable payload < payload → overflow_size usable payload ≡ 4
-unfolding overflow_size
-overflow_size-four usable payload more = grind (arith, nat_tests)
-
 pub leaf_found : (page : List ℕ) (usable at : ℕ) (bytes : List ℕ) (w : IsWholeCell usable bytes) → StandsAt page usable at bytes w
     → IsLeafCell page usable at (found_cell usable at bytes w)
 leaf_found page usable at bytes w s =
@@ -466,7 +453,7 @@ leaf_found page usable at bytes w s =
       end = refl;
       overflow = overflow_same (local_payload usable w.payload) w.payload (big_number 4 w.overflow_part) (big_number 4 (drop end page))
           (λ more. sym (ap (big_number 4) s.overflow_part
-          ∙ big_number-append 4 w.overflow_part s.behind (omega (arith, w.overflow, overflow_size-four usable w.payload more))));
+          ∙ big_number-append 4 w.overflow_part s.behind (omega (arith, w.overflow, overflow_size-some usable w.payload more))));
     }
 
 -- the cells that a reader finds where whole cells stand one after the other
@@ -511,21 +498,6 @@ found_at usable at (x ∷ xs) whole (suc i) c found =
       given = f.given;
       is = f.is ∙ ap (λ n. found_cell usable n f.bytes f.whole) (omega (arith, rooms-cons x (take i xs)));
     }
-
--- an element of the front of a list
-slice_get-take : {X : Type 0} (xs : List X) (n i : ℕ) (x : X) → slice_get (take n xs) i ≡ Some x → (i < n) × (slice_get xs i ≡ Some x)
-slice_get-take {X} xs zero i x is = absurd (none x is)
-  where
-    none : (x : X) → ◌≡◌ {A = Option X} None (Some x) → ⊥
-    none x e = cc
-slice_get-take {X} [] (suc n) i x is = absurd (none x is)
-  where
-    none : (x : X) → ◌≡◌ {A = Option X} None (Some x) → ⊥
-    none x e = cc
-slice_get-take {X} (y ∷ ys) (suc n) zero x is = (omega arith, is)
-slice_get-take {X} (y ∷ ys) (suc n) (suc i) x is =
-    let ih = slice_get-take ys n i x is in
-    (omega (arith, ih.0), ih.1)
 
 -- cells of earlier places end before cell i begins
 rooms_before : (cells : List (List ℕ)) (j i : ℕ) (bytes : List ℕ) → j < i → slice_get cells j ≡ Some bytes

@@ -2,11 +2,12 @@
 use Rattle.std.proofs.Common.{[], ◌∷◌, ◌++◌, ◌+◌, ◌≤◌, length-append, length, arith, ◌≡◌, ℕ, ◌^◌, ◌<◌, List, slice_index, Option, Some, None, sym, ap, ◌∙◌}
 use Rattle.std.specs.List.{All}
 use Rattle.std.proofs.lemmas.List.Elements.{All-from_get_or}
+use Rattle.alter_bytes.proofs.Bounds.{IsByte}
 use Rattle.schema_rows.specs.Record.{AreBodies, Blob, Int, IsBody, IsRecord, Null, Real, Text, Value}
 use Rattle.schema_rows.specs.RowReading.{RowParts, row_at}
 use Rattle.schema_rows.specs.Schema.{row_values}
 use Rattle.schema_rows.specs.declared.schema.SchemaRow.{SchemaRow}
-use Rattle.schema_rows.proofs.RowRecords.{IsByte, row_at-reads, row_at-whole}
+use Rattle.schema_rows.proofs.RowRecords.{row_at-reads, row_at-whole}
 
 -- the parts of a row
 abbrev pub parts_in : SchemaRow → RowParts

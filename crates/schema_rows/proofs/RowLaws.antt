@@ -1,7 +1,9 @@
 -- What the front of a row's record gives when it is read.
-use Rattle.std.proofs.Common.{◌≡◌, ℕ, zero, suc, ◌+◌, ◌-◌, ◌*◌, ◌/◌, ◌%◌, ◌≤◌, pos, Bool, true, false, ◌&&◌, ◌==◌, nat_le, if◌then◌else◌, List, [], ◌∷◌, ◌++◌, length, take, drop, codes, Option, Some, None, option_map, refl, sym, ap, subst, ◌∙◌, arith, length-append, append_assoc}
+use Rattle.std.proofs.Common.{◌≡◌, ℕ, zero, suc, ◌+◌, ◌-◌, ◌*◌, ◌/◌, ◌%◌, ◌≤◌, pos, true, ◌&&◌, ◌==◌, nat_le, List, [], ◌∷◌, ◌++◌, length, take, drop, codes, Option, Some, None, option_map, refl, sym, ap, subst, ◌∙◌, arith, length-append, append_assoc}
 use Rattle.std.proofs.lemmas.Bool.{and_from, and_parts, eqb-true, eq-eqb, le-leb, leb-true}
 use Rattle.std.proofs.lemmas.List.{drop_at, length-take-le, take-append-drop, take_at}
+use Rattle.std.proofs.lemmas.Option.{same_Some}
+use Rattle.common_laws.proofs.Options.{chosen, mapped}
 use Rattle.alter_bytes.specs.Varint.{IsVarint, varint_from}
 use Rattle.alter_bytes.proofs.VarintLemmas.{varint_from-form, varint_from-reads}
 use Rattle.schema_rows.specs.Record.{AreVarints, Int, Text, Value}
@@ -15,17 +17,6 @@ values_of parts = Text (codes "table") ∷ Text parts.name ∷ Text parts.table 
 pub bound : {A B : Type 0} (x : Option A) (f : A → Option B) (r : B) → (x >>= f) ≡ Some r → (a : A) × (x ≡ Some a) × (f a ≡ Some r)
 bound None f r e = absurd (cc)
 bound (Some a) f r e = (a, refl, e)
-
-mapped : {A B : Type 0} (f : A → B) (x : Option A) (r : B) → option_map f x ≡ Some r → (a : A) × (x ≡ Some a) × (f a ≡ r)
-mapped f None r e = absurd (cc)
-mapped f (Some a) r e = (a, refl, cc)
-
-pub chosen : {A : Type 0} (b : Bool) (x : Option A) (r : A) → (if b then x else None) ≡ Some r → (b ≡ true) × (x ≡ Some r)
-chosen true x r e = (refl, e)
-chosen false x r e = absurd (cc)
-
-pub same_some : {A : Type 0} (a b : A) → ◌≡◌ {A = Option A} (Some a) (Some b) → a ≡ b
-same_some a b e = cc
 
 -- the varint in front
 pub record VarintRead (bytes : List ℕ) (read : ℕ × List ℕ) : Type 0 where
@@ -52,7 +43,7 @@ unfolding chunk
 chunk-reads n bytes read e =
     let found = chosen (nat_le n (length bytes)) (Some (take n bytes, drop n bytes)) read e in
     let fits = leb-true n (length bytes) found.0 in
-    subst (λ (p : List ℕ × List ℕ). (bytes ≡ p.0 ++ p.1) × (length p.0 ≡ n)) (same_some (take n bytes, drop n bytes) read found.1)
+    subst (λ (p : List ℕ × List ℕ). (bytes ≡ p.0 ++ p.1) × (length p.0 ≡ n)) (same_Some (take n bytes, drop n bytes) read found.1)
     (sym (take-append-drop n bytes), length-take-le n bytes fits)
 
 pub chunk-whole : (n : ℕ) (piece rest : List ℕ) → length piece ≡ n → chunk n (piece ++ rest) ≡ Some (piece, rest)
@@ -70,13 +61,13 @@ pub record VarintsRead (n : ℕ) (bytes : List ℕ) (read : List ℕ × List ℕ
 pub varints-reads : (n : ℕ) (bytes : List ℕ) (read : List ℕ × List ℕ) → varints n bytes ≡ Some read → VarintsRead n bytes read
 unfolding varints
 varints-reads zero bytes read e =
-    subst (VarintsRead zero bytes) (same_some ([], bytes) read e) (record { fields = []; whole = refl; are = refl })
+    subst (VarintsRead zero bytes) (same_Some ([], bytes) read e) (record { fields = []; whole = refl; are = refl })
 varints-reads (suc n) bytes read e =
     let front = bound (varint_front bytes) (λ (first : ℕ × List ℕ). varints n first.1 >>= (λ (others : List ℕ × List ℕ). Some (first.0 ∷ others.0, others.1))) read e in
     let back = bound (varints n front.0.1) (λ (others : List ℕ × List ℕ). Some (front.0.0 ∷ others.0, others.1)) read front.2 in
     let one = varint_front-reads bytes front.0 front.1 in
     let more = varints-reads n front.0.1 back.0 back.1 in
-    subst (VarintsRead (suc n) bytes) (same_some (front.0.0 ∷ back.0.0, back.0.1) read back.2) (record {
+    subst (VarintsRead (suc n) bytes) (same_Some (front.0.0 ∷ back.0.0, back.0.1) read back.2) (record {
       fields = one.first ++ more.fields;
       whole = one.whole ∙ ap (λ l. one.first ++ l) more.whole ∙ sym (append_assoc one.first more.fields back.0.1);
       are = (one.first, more.fields, refl, one.is, more.are);

@@ -1,38 +1,19 @@
 -- What is read as a row's record is one, and a row's record is read.
-use Rattle.std.proofs.Common.{◌≡◌, ◌≢◌, ℕ, ◌+◌, ◌-◌, ◌*◌, ◌^◌, ◌<◌, ◌≤◌, ◌⊎◌, inl, inr, ℤ, pos, ◌-ℤ◌, Bool, true, false, ◌&&◌, ◌==◌, nat_lt, nat_eq, if◌then◌else◌, List, [], ◌∷◌, ◌++◌, length, slice_index, codes, Option, Some, None, refl, sym, ap, subst, ◌∙◌, arith, length-append, append_assoc}
+use Rattle.std.proofs.Common.{◌≡◌, ◌≢◌, ℕ, ◌+◌, ◌-◌, ◌*◌, ◌^◌, ◌<◌, ◌≤◌, ◌⊎◌, inl, inr, ℤ, pos, ◌-ℤ◌, Bool, true, false, ◌&&◌, ◌==◌, nat_lt, nat_eq, if◌then◌else◌, List, [], ◌∷◌, ◌++◌, length, codes, Option, Some, None, refl, sym, ap, subst, ◌∙◌, arith, length-append, append_assoc}
 use Rattle.std.specs.List.{All}
 use Rattle.std.specs.Cmp.Lexicographic.{pointwise, bytes_decides}
 use Rattle.std.proofs.lemmas.Bool.{and_parts, cases_Bool, cases_lt, eqb-true, eq-eqb, le-ltb, lt-ltb, ne_eqb, ltb-true}
 use Rattle.std.proofs.lemmas.Bool.Decides.{nat_tests}
 use Rattle.std.proofs.lemmas.Int.{ints}
-use Rattle.std.proofs.lemmas.List.{drop_at, get_or_past, nil_from_length, take_at}
-use Rattle.std.proofs.lemmas.List.Elements.{All-drop, All-get_or, All-take}
+use Rattle.std.proofs.lemmas.List.{nil_from_length}
 use Rattle.byteorder.specs.Endian.{big_number, twos_complement}
-use Rattle.byteorder.specs.Numbers.{big_from-lt}
+use Rattle.std.proofs.lemmas.Option.{same_Some}
+use Rattle.common_laws.proofs.Options.{chosen}
+use Rattle.alter_bytes.proofs.Bounds.{IsByte, big_number-lt, bytes_left, bytes_right}
 use Rattle.alter_bytes.specs.Varint.{IsVarint}
 use Rattle.schema_rows.specs.Record.{AreBodies, Int, IsBody, IsRecord, IsWidth, Text, Value, one, two, three, four, six, eight}
 use Rattle.schema_rows.specs.RowReading.{RowParts, bodies, chunk, integer_front, root_front, root_limit, row_at, text_front, varint_front, varints, width_of, ◌>>=◌}
-use Rattle.schema_rows.proofs.RowLaws.{bound, chosen, chunk-reads, chunk-whole, same_some, text_front-reads, text_front-whole, values_of, varint_front-reads, varint_front-whole, varints-reads, varints-whole}
-
--- a byte
-abbrev pub IsByte : ℕ → Type 0
-IsByte b = b < 256
-
-pub bytes_left : (xs ys : List ℕ) → All IsByte (xs ++ ys) → All IsByte xs
-bytes_left xs ys h = subst (All IsByte) (take_at xs ys (length xs) refl) (All-take IsByte (length xs) (xs ++ ys) h)
-
-pub bytes_right : (xs ys : List ℕ) → All IsByte (xs ++ ys) → All IsByte ys
-bytes_right xs ys h = subst (All IsByte) (drop_at xs ys (length xs) refl) (All-drop IsByte (length xs) (xs ++ ys) h)
-
--- the number of some bytes stays below its power
-big_number-lt : (n : ℕ) (bytes : List ℕ) → All IsByte bytes → big_number n bytes < 256 ^ n
-big_number-lt n bytes h = big_from-lt 0 n bytes below
-  where
-    below : (k : ℕ) → slice_index bytes k < 256
-    below k = elim (cases_lt k (length bytes)) [
-      | inl inside ↦ All-get_or IsByte bytes k 0 inside h
-      | inr past ↦ subst (λ (b : ℕ). b < 256) (sym (get_or_past bytes k 0 past)) (omega arith)
-    ]
+use Rattle.schema_rows.proofs.RowLaws.{bound, chunk-reads, chunk-whole, text_front-reads, text_front-whole, values_of, varint_front-reads, varint_front-whole, varints-reads, varints-whole}
 
 -- the widths of the serial types 1 to 6
 tested : {A : Type 0} (s k : ℕ) (x y : Option A) (r : A) → (if s == k then x else y) ≡ Some r → ((s ≡ k) × (x ≡ Some r)) ⊎ ((s ≢ k) × (y ≡ Some r))
@@ -45,7 +26,7 @@ tested s k x y r e = elim (cases_Bool (s == k)) [
     apart s k not = grind (arith, nat_tests)
 
 width : (serial w k m : ℕ) → serial ≡ k → ◌≡◌ {A = Option ℕ} (Some m) (Some w) → IsWidth k m → IsWidth serial w
-width serial w k m at is known = subst (λ (v : ℕ). IsWidth serial v) (same_some m w is) (subst (λ (s : ℕ). IsWidth s m) (sym at) known)
+width serial w k m at is known = subst (λ (v : ℕ). IsWidth serial v) (same_Some m w is) (subst (λ (s : ℕ). IsWidth s m) (sym at) known)
 
 width_of-reads : (serial w : ℕ) → width_of serial ≡ Some w → IsWidth serial w
 unfolding width_of
@@ -132,13 +113,13 @@ root_front-reads serial bytes read e =
     let front = bound (integer_front serial bytes) (λ (number : ℕ × List ℕ). if nat_lt number.0 (root_limit serial) then Some number else None) read e in
     let tests = chosen (nat_lt front.0.0 (root_limit serial)) (Some front.0) read front.2 in
     let below : front.0.0 < root_limit serial = ltb-true front.0.0 (root_limit serial) tests.0 in
-    subst (RootRead serial bytes) (same_some front.0 read tests.1) (elim (tested serial 8 (Some (0, bytes)) _ front.0 front.1) [
+    subst (RootRead serial bytes) (same_Some front.0 read tests.1) (elim (tested serial 8 (Some (0, bytes)) _ front.0 front.1) [
       | inl zero_is ↦
-          subst (RootRead serial bytes) (same_some (0, bytes) front.0 zero_is.1)
+          subst (RootRead serial bytes) (same_Some (0, bytes) front.0 zero_is.1)
           (record { first = []; whole = refl; is = inr (inl (zero_is.0, refl, refl)); small = omega arith })
       | inr not ↦ elim (tested serial 9 (Some (1, bytes)) _ front.0 not.1) [
         | inl one_is ↦
-            subst (RootRead serial bytes) (same_some (1, bytes) front.0 one_is.1)
+            subst (RootRead serial bytes) (same_Some (1, bytes) front.0 one_is.1)
             (record { first = []; whole = refl; is = inr (inr (one_is.0, refl, refl)); small = omega arith })
         | inr not ↦ sized_reads serial bytes front.0 below not.1
       ]
@@ -152,7 +133,7 @@ root_front-reads serial bytes read e =
         let piece = bound (chunk size.0 bytes) (λ (piece : List ℕ × List ℕ). Some (big_number size.0 piece.0, piece.1)) read size.2 in
         let split = chunk-reads size.0 bytes piece.0 piece.1 in
         let known = width_of-reads serial size.0 size.1 in
-        let same = same_some (big_number size.0 piece.0.0, piece.0.1) read piece.2 in
+        let same = same_Some (big_number size.0 piece.0.0, piece.0.1) read piece.2 in
         let limit : big_number size.0 piece.0.0 < root_limit serial = subst (λ (r : ℕ × List ℕ). r.0 < root_limit serial) (sym same) below in
         let value = positive serial size.0 (big_number size.0 piece.0.0) known limit in
         subst (RootRead serial bytes) same (record {
@@ -224,7 +205,7 @@ bodies-five kind name table root text bytes parts e =
     let table_is = text_front-reads table b.0.1 c.0 c.1 in
     let root_is = root_front-reads root c.0.1 d.0 d.1 in
     let text_is = text_front-reads text d.0.1 f.0 f.1 in
-    subst (λ (p : RowParts). AreBodies (kind ∷ name ∷ table ∷ root ∷ text ∷ []) (values_of p) bytes × (p.root < 2 ^ 31)) (same_some whole parts last.1) (
+    subst (λ (p : RowParts). AreBodies (kind ∷ name ∷ table ∷ root ∷ text ∷ []) (values_of p) bytes × (p.root < 2 ^ 31)) (same_Some whole parts last.1) (
       (
         a.0.0,
         a.0.1,

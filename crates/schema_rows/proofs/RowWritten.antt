@@ -1,19 +1,18 @@
 -- The record and the cell that are written for a row.
-use Rattle.std.proofs.Common.{◌≡◌, ℕ, zero, suc, ◌+◌, ◌-◌, ◌*◌, ◌/◌, ◌%◌, ◌^◌, ◌<◌, ◌≤◌, inl, inr, pos, List, [], ◌∷◌, ◌++◌, length, codes, refl, sym, ap, subst, ◌∙◌, arith, append-nil, append_assoc, length-append}
-use Rattle.std.specs.Int.{byte_at, bytes_high_first}
+use Rattle.std.proofs.Common.{◌≡◌, ℕ, ◌+◌, ◌-◌, ◌*◌, ◌^◌, ◌<◌, ◌≤◌, inl, inr, pos, List, [], ◌∷◌, ◌++◌, length, codes, refl, sym, ap, subst, ◌∙◌, arith, append-nil, append_assoc, length-append}
 use Rattle.std.specs.List.{All}
 use Rattle.std.proofs.lemmas.Bool.{cases_lt}
 use Rattle.std.proofs.lemmas.Bool.Decides.{nat_tests}
-use Rattle.std.proofs.lemmas.List.Elements.{All-append, All-cons, All-from_recursion, All-nil, All-push}
+use Rattle.std.proofs.lemmas.List.Elements.{All-append, All-cons, All-from_recursion, All-nil}
 use Rattle.byteorder.specs.Endian.{big_bytes, big_number, twos_complement}
-use Rattle.byteorder.specs.Numbers.{big_number-reads_back}
-use Rattle.alter_bytes.specs.Varint.{IsVarint, higher_septets, septet_bytes, varint}
-use Rattle.alter_bytes.proofs.Lists.{length-big_bytes}
-use Rattle.alter_bytes.proofs.VarintLemmas.{length-varint-le, varint-is, varint-long, varint-short}
+use Rattle.alter_bytes.specs.Varint.{IsVarint, varint}
+use Rattle.alter_bytes.proofs.Bounds.{IsByte, big_bytes-bytes, varint-bytes}
+use Rattle.alter_bytes.proofs.Fields.{big_number-big_bytes, length-big_bytes}
+use Rattle.alter_bytes.proofs.VarintLemmas.{length-varint-le, varint-is, varint-one}
 use Rattle.schema_rows.specs.Record.{Int, IsBody, IsRecord, IsWidth, one, two, three}
 use Rattle.schema_rows.specs.Schema.{root_width, row_bodies, row_cell, row_record, row_types, row_values}
 use Rattle.schema_rows.specs.declared.schema.SchemaRow.{SchemaRow}
-use Rattle.schema_rows.proofs.RowRecords.{IsByte, below_half}
+use Rattle.schema_rows.proofs.RowRecords.{below_half}
 
 -- a row whose root and lengths are small enough to be written
 pub record IsSmall (row : SchemaRow) : Type 0 where
@@ -44,7 +43,7 @@ root_width-le root = elim (cases_lt root 128) [
 -- a number in so many bytes, as the body of an integer
 number_body : (w n : ℕ) → IsWidth w w → n < 2 ^ (8 * w - 1) → n < 256 ^ w → IsBody w (Int (pos n)) (big_bytes w n)
 number_body w n known half small =
-    let read : big_number w (big_bytes w n) ≡ n = ap (big_number w) (sym (append-nil (big_bytes w n))) ∙ big_number-reads_back w n [] small in
+    let read : big_number w (big_bytes w n) ≡ n = big_number-big_bytes w n small in
     let value : pos n ≡ twos_complement w (big_number w (big_bytes w n)) = sym (ap (twos_complement w) read ∙ below_half w n half) in
     inl (subst (λ (k : ℕ). IsWidth w k × (pos n ≡ twos_complement k (big_number k (big_bytes w n)))) (sym (length-big_bytes w n)) (known, value))
 
@@ -60,11 +59,6 @@ root_body root small = elim (cases_lt root 128) [
     at : (root w : ℕ) → root_width root ≡ w → IsBody w (Int (pos root)) (big_bytes w root)
         → IsBody (root_width root) (Int (pos root)) (big_bytes (root_width root) root)
     at root w is body = subst (λ (k : ℕ). IsBody k (Int (pos root)) (big_bytes k root)) (sym is) body
-
--- a varint of one byte
-small_varint : (n : ℕ) → n < 128 → IsVarint (n ∷ []) n
-small_varint n small =
-    inl (record { front = []; last = n; whole = refl; few = omega arith; continued = All-nil (λ b. 128 ≤ b); ended = small; value = omega arith })
 
 -- five serial types take at most 37 bytes
 pub length-row_types : (row : SchemaRow) → length (row_types row) ≤ 37
@@ -105,7 +99,7 @@ row_record-is row small =
       bodies = row_bodies row;
       serials = 23 ∷ name ∷ table ∷ root ∷ text ∷ [];
       whole = refl;
-      size = subst (IsVarint ((length (row_types row) + 1) ∷ [])) size (small_varint (length (row_types row) + 1) (omega arith));
+      size = subst (IsVarint ((length (row_types row) + 1) ∷ [])) size (varint-one (length (row_types row) + 1) (omega arith));
       types = (
         varint 23,
         _,
@@ -125,7 +119,7 @@ row_record-is row small =
               root ∷ [],
               _,
               refl,
-              small_varint root (omega (arith, root_width-le row.root)),
+              varint-one root (omega (arith, root_width-le row.root)),
               (varint text, [], refl, varint-is text (omega (arith, small.text)), refl),
             ),
           ),
@@ -157,31 +151,6 @@ row_record-is row small =
         ),
       );
     }
-
--- the bytes of varints and of numbers
-septet_bytes-bytes : (n v : ℕ) → All IsByte (septet_bytes n v)
-unfolding septet_bytes
-septet_bytes-bytes zero v = All-nil IsByte
-septet_bytes-bytes (suc n) v =
-    All-push IsByte (septet_bytes n (v / 128)) (128 + v % 128) (septet_bytes-bytes n (v / 128)) (omega arith)
-
-pub varint-bytes : (v : ℕ) → All IsByte (varint v)
-varint-bytes v = elim (cases_lt (higher_septets 8 v) 8) [
-  | inl few ↦
-      subst (All IsByte) (sym (varint-short v few))
-      (All-push IsByte (septet_bytes (higher_septets 8 v) (v / 128)) (v % 128) (septet_bytes-bytes (higher_septets 8 v) (v / 128)) (omega arith))
-  | inr many ↦
-      subst (All IsByte) (sym (varint-long v many))
-      (All-push IsByte (septet_bytes 8 (v / 256)) (v % 256) (septet_bytes-bytes 8 (v / 256)) (omega arith))
-]
-
-pub big_bytes-bytes : (n v : ℕ) → All IsByte (big_bytes n v)
-big_bytes-bytes zero v = All-nil IsByte
-big_bytes-bytes (suc n) v = All-cons IsByte (byte_at n v) (bytes_high_first n v) (low n v) (big_bytes-bytes n v)
-  where
-    low : (k v : ℕ) → byte_at k v < 256
-    low zero v = omega arith
-    low (suc k) v = omega arith
 
 -- the bytes of a row are bytes
 pub record AreBytes (row : SchemaRow) : Type 0 where

@@ -1,5 +1,5 @@
 -- The rows of the schema table that stand for tables (fileformat2.html, "Storage Of The SQL Database Schema").
-use Rattle.std.specs.Prelude.{◌≡◌, ℕ, ◌+◌, ◌*◌, pos, Option, Some, None, Result, Ok, Err, List, [], ◌∷◌, ◌++◌, length, codes, nat_lt, if◌then◌else◌}
+use Rattle.std.specs.Prelude.{ℕ, ◌+◌, ◌*◌, pos, List, [], ◌∷◌, ◌++◌, length, codes, nat_lt, if◌then◌else◌}
 use Rattle.byteorder.specs.Endian.{big_bytes}
 use Rattle.alter_bytes.specs.Varint.{varint}
 use Rattle.schema_rows.specs.Record.{Value, Text, Int}
@@ -8,12 +8,6 @@ use Rattle.schema_rows.specs.declared.schema.SchemaRow.{SchemaRow}
 -- what the record of a table's row says: type, name, tbl_name, rootpage and sql
 abbrev pub row_values : SchemaRow → List Value
 row_values row = Text (codes "table") ∷ Text row.name ∷ Text row.table ∷ Int (pos row.root) ∷ Text row.text ∷ []
-
--- the row was read, unless an error came first
-abbrev pub IsRowReadAs : {E : Type 0} → SchemaRow → Result (Option SchemaRow) E → Type 0
-IsRowReadAs row (Ok (Some read)) = read ≡ row
-IsRowReadAs row (Ok None) = ⊥
-IsRowReadAs row (Err error) = Unit {0}
 
 -- the bytes of a root in its shortest form; a file has at most 65,536 pages
 abbrev pub root_width : ℕ → ℕ

@@ -1,5 +1,7 @@
 //! The rows of the schema table that stand for tables.
 ghost use Rattle.std.specs.Prelude.{◌≡◌, ◌<◌, ◌≤◌, ◌+◌, ◌*◌, ◌^◌, ◌++◌, drop, length, IfOk, OnOk, IfSome};
+ghost use Rattle.std.specs.Option.{IsSomeAnd};
+ghost use Rattle.common_laws.specs.Results.{AnyError, Yields};
 ghost use Rattle.byteorder.specs.Endian.{big_bytes};
 ghost use Rattle.alter_bytes.specs.Varint.{varint};
 ghost use Rattle.schema_rows.specs.Record.{IsRecord};
@@ -31,7 +33,7 @@ pub fn read_schema_row(
     ensures found { IfOk result (λ read. IfSome read (λ row. (row.rowid ≡ rowid) × IsRecord payload.now (spec.row_values row))) }
     ensures limit { IfOk result (λ read. IfSome read (λ row. row.root < 2 ^ 31)) }
     ensures lengths { IfOk result (λ read. IfSome read (λ row. length row.name + length row.table + length row.text ≤ length payload.now)) }
-    ensures only { (row : SchemaRow) → row.rowid ≡ rowid → row.root < 2 ^ 31 → IsRecord payload.now (spec.row_values row) → spec.IsRowReadAs row result }
+    ensures only { (row : SchemaRow) → row.rowid ≡ rowid → row.root < 2 ^ 31 → IsRecord payload.now (spec.row_values row) → Yields AnyError (λ read. IsSomeAnd read (λ found. found ≡ row)) result }
 {
     match read_row(payload) {
         Some(parts) => {

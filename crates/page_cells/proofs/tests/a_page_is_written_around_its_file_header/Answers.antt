@@ -1,21 +1,10 @@
 use Rattle.std.proofs.Common.{ℕ, ◌≡◌, ◌≤◌, ◌<◌, ◌+◌, ◌*◌, ◌%◌, List, [], ◌∷◌, refl, inl, arith}
 use Rattle.std.proofs.lemmas.List.Elements.{All-cons, All-nil}
 use Rattle.alter_bytes.specs.Varint.{IsVarint}
+use Rattle.alter_bytes.proofs.VarintLemmas.{varint-one}
 use Rattle.page_cells.specs.Layout.{local_payload, overflow_size}
 use Rattle.page_cells.specs.Write.{IsWholeCell}
 use Rattle.page_cells.proofs.tests.a_page_is_written_around_its_file_header.Goals as goal
-
--- a varint of one byte
-one_byte : (v : ℕ) → v < 128 → IsVarint (v ∷ []) v
-one_byte v small = inl (record {
-  front = [];
-  last = v;
-  whole = refl;
-  few = omega arith;
-  continued = All-nil (λ b. 128 ≤ b);
-  ended = small;
-  value = omega arith;
-})
 
 -- a varint of two bytes
 two_bytes : (a b : ℕ) → 128 ≤ a → b < 128 → IsVarint (a ∷ b ∷ []) (a % 128 * 128 + b)
@@ -40,8 +29,8 @@ one bytes is = record {
   local_part = 57 ∷ [];
   overflow_part = [];
   whole = is;
-  is_length = one_byte 1 (omega arith);
-  is_rowid = one_byte 2 (omega arith);
+  is_length = varint-one 1 (omega arith);
+  is_rowid = varint-one 2 (omega arith);
   local = refl;
   overflow = refl;
 }
@@ -56,7 +45,7 @@ other bytes is = record {
   local_part = 97 ∷ 98 ∷ 99 ∷ [];
   overflow_part = [];
   whole = is;
-  is_length = one_byte 3 (omega arith);
+  is_length = varint-one 3 (omega arith);
   is_rowid = two_bytes 129 0 (omega arith) (omega arith);
   local = refl;
   overflow = refl;

@@ -1,6 +1,6 @@
 use Rattle.std.proofs.Common.{refl, arith, ◌∙◌, ap, ap₂, ◌+◌, ◌-◌, replicate, length}
 use Rattle.alter_bytes.specs.Field.{overlaid}
-use Rattle.page_cells.proofs.WriteLemmas.{overlaid-behind}
+use Rattle.alter_bytes.proofs.Fields.{overlaid-behind}
 use Rattle.page_cells.proofs.writer.write_cell.Goals as goal
 
 pub returns : goal.returns
