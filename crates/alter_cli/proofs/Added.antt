@@ -11,7 +11,7 @@ use Rattle.page_cells.proofs.WriteLemmas.{length-written_page, take-written_page
 use Rattle.plain_sql.specs.declared.script.Command.{Command}
 use Rattle.schema_rows.specs.declared.schema.SchemaRow.{SchemaRow}
 use Rattle.schema_rows.specs.Schema.{row_cell}
-use Rattle.alter_cli.specs.declared.form.Table.{Table}
+use Rattle.alter_cli.specs.declared.table.Table.{Table}
 use Rattle.alter_cli.specs.FirstForm.{AreFiles, HasRoot, IsSpelled, IsStored, first_page, header_of, rows_of}
 use Rattle.alter_cli.specs.FirstPage.{HoldRows, HoldsRows, IsEmptyTable, IsRowid}
 use Rattle.alter_cli.specs.Header.{IsHeader, committed, page_count, page_size, usable_size}

@@ -11,8 +11,15 @@ use Rattle.alter_cli.specs.Image.{page_bytes}
 use Rattle.alter_cli.specs.Header.{IsHeader, page_size, usable_size}
 use Rattle.alter_cli.specs.Sizes.{HasSizes}
 use Rattle.alter_cli.specs.FirstPage.{HoldsRows, IsEmptyTable}
-use Rattle.alter_cli.specs.Served.{IsOpening, HasFront, HasEmptyRoot}
+use Rattle.alter_cli.specs.Served.{HasFirstPage, HasEmptyRoot}
 use Rattle.alter_cli.proofs.ImageLemmas.{page_size-bounds}
+
+-- no journal, and a database that begins with this header, of these sizes
+pub record IsOpening (files : Files) (sizes : Sizes) (first : List ℕ) : Type 0 where
+  pub journal : files.journal ≡ []
+  pub bytes : first ≡ take 100 files.db
+  pub header : IsHeader (take 100 files.db) (length files.db)
+  pub sized : HasSizes (take 100 files.db) (length files.db) sizes
 
 -- the two lengths are those of the files
 abbrev pub Lengths : ℕ → ℕ → Files → Type 0
@@ -40,12 +47,12 @@ header_read files journal db first is long filled =
     filled (omega arith)
 
 -- the header and the sizes that were read are those of the file
-pub opening_read : (told now : Option Files) (journal db : ℕ) (first : List ℕ) (sizes : Sizes) → now ≡ told → IfTold told (Lengths journal db)
-    → journal ≡ 0 → 100 ≤ db → IfTold now (Filled 0 100 first) → IsHeader first db → HasSizes first db sizes
+pub opening_read : (told : Option Files) (journal db : ℕ) (first : List ℕ) (sizes : Sizes) → IfTold told (Lengths journal db)
+    → journal ≡ 0 → 100 ≤ db → IfTold told (Filled 0 100 first) → IsHeader first db → HasSizes first db sizes
     → IfTold told (λ files. IsOpening files sizes first)
-opening_read None now journal db first sizes same is none long filled header sized = tt
-opening_read (Some files) now journal db first sizes same is none long filled header sized =
-    let bytes = header_read files journal db first is long (subst (λ t. IfTold t (Filled 0 100 first)) same filled) in
+opening_read None journal db first sizes is none long filled header sized = tt
+opening_read (Some files) journal db first sizes is none long filled header sized =
+    let bytes = header_read files journal db first is long filled in
     record {
       journal = nil_from_length files.journal (sym is.0 ∙ none);
       bytes = bytes;
@@ -54,12 +61,12 @@ opening_read (Some files) now journal db first sizes same is none long filled he
     }
 
 -- the header that was read is none that is served, nor is that of the file
-pub no_opening : (told now : Option Files) (journal db : ℕ) (first : List ℕ) → now ≡ told → IfTold told (Lengths journal db)
-    → 100 ≤ db → IfTold now (Filled 0 100 first) → (IsHeader first db → ⊥)
+pub no_opening : (told : Option Files) (journal db : ℕ) (first : List ℕ) → IfTold told (Lengths journal db)
+    → 100 ≤ db → IfTold told (Filled 0 100 first) → (IsHeader first db → ⊥)
     → IfTold told (λ files. files.journal ≡ [] → IsHeader (take 100 files.db) (length files.db) → ⊥)
-no_opening None now journal db first same is long filled none = tt
-no_opening (Some files) now journal db first same is long filled none = λ empty header.
-    let bytes = header_read files journal db first is long (subst (λ t. IfTold t (Filled 0 100 first)) same filled) in
+no_opening None journal db first is long filled none = tt
+no_opening (Some files) journal db first is long filled none = λ empty header.
+    let bytes = header_read files journal db first is long filled in
     none (subst (λ (n : ℕ). IsHeader first n) (sym is.1) (subst (λ (h : List ℕ). IsHeader h (length files.db)) (sym bytes) header))
 
 -- the first page lies in the file
@@ -84,12 +91,13 @@ first_read (Some files) sizes first behind page n rest filled whole = λ opening
 
 -- the root is there and empty exactly where the page that was read is
 pub root_read : (told : Option Files) (sizes : Sizes) (root : ℕ) (page : List ℕ) (empty : Bool) → 2 ≤ root → root ≤ sizes.count
-    → IfTold told (λ files. root * sizes.page ≤ length files.db → page ≡ page_bytes sizes.page root files.db)
+    → IfTold told (λ files. (root - 1) * sizes.page + sizes.page ≤ length files.db → page ≡ page_bytes sizes.page root files.db)
     → (IsTrue empty ↔ IsEmptyTable sizes.usable page)
     → IfTold told (λ files. sizes.count * sizes.page ≤ length files.db → IsTrue empty ↔ HasEmptyRoot files sizes root)
 root_read None sizes root page empty behind there read is = tt
 root_read (Some files) sizes root page empty behind there read is = λ inside.
-    let below = mul-le-mul_right sizes.page there in
+    let last : (root - 1) + 1 ≤ sizes.count = omega arith in
+    let below = mul-le-mul_right sizes.page last in
     let bytes = read (omega (arith, below)) in (
       λ yes. record { behind = behind; there = there; empty = subst (λ (p : List ℕ). IsEmptyTable sizes.usable p) bytes (is.0 yes) },
       λ has. is.1 (subst (λ (p : List ℕ). IsEmptyTable sizes.usable p) (sym bytes) has.empty),
@@ -97,14 +105,14 @@ root_read (Some files) sizes root page empty behind there read is = λ inside.
 
 -- the rows of page 1 of the files, on the page that was read
 pub front_held : (files : Files) (sizes : Sizes) (first page : List ℕ) (rows : List SchemaRow) → IsOpening files sizes first
-    → page ≡ take sizes.page files.db → HasFront files rows → HoldsRows page sizes.usable rows
+    → page ≡ take sizes.page files.db → HasFirstPage files rows → HoldsRows page sizes.usable rows
 front_held files sizes first page rows opening bytes front =
     subst (λ (p : List ℕ). HoldsRows p sizes.usable rows) (ap (λ (k : ℕ). take k files.db) (sym opening.sized.page) ∙ sym bytes)
     (subst (λ (u : ℕ). HoldsRows (take (page_size (take 100 files.db)) files.db) u rows) (sym opening.sized.usable) front.held)
 
 -- what was read on page 1 are the rows of the files
 pub front_rows : (files : Files) (sizes : Sizes) (first page : List ℕ) (rows : List SchemaRow) → IsOpening files sizes first
-    → page ≡ take sizes.page files.db → HoldsRows page sizes.usable rows → HasFront files rows
+    → page ≡ take sizes.page files.db → HoldsRows page sizes.usable rows → HasFirstPage files rows
 front_rows files sizes first page rows opening bytes held = record {
   journal = opening.journal;
   header = opening.header;

@@ -5,7 +5,7 @@ use Rattle.std.specs.List.{AllByRecursion}
 use Rattle.std.specs.declared.alloc.AllocError.{AllocError}
 use Rattle.sql_token.specs.Names.{folded}
 use Rattle.schema_rows.specs.declared.schema.SchemaRow.{SchemaRow}
-use Rattle.alter_cli.specs.declared.form.Table.{Table}
+use Rattle.alter_cli.specs.declared.table.Table.{Table}
 use Rattle.plain_sql.specs.declared.table.TableText.{TableText}
 use Rattle.plain_sql.specs.TableText.{SpellsTable, IsTableReadAs}
 use Rattle.plain_sql.specs.Words.{IsRead}

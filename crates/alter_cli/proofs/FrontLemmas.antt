@@ -1,15 +1,20 @@
--- What was read of the front of the files.
-use Rattle.std.proofs.Common.{◌≡◌, ◌≤◌, ◌<◌, ℕ, ◌+◌, ◌^◌, ◌*◌, ◌↔◌, Bool, true, IsTrue, Option, Some, None, Ok, Vec, Global, List, length, get_or, take, ◌∙◌, ap, subst, arith}
+-- What was read of page 1 of the files.
+use Rattle.std.proofs.Common.{◌≡◌, ◌≤◌, ◌<◌, ℕ, ◌+◌, ◌-◌, ◌^◌, ◌*◌, ◌↔◌, Bool, true, IsTrue, Option, Some, None, Ok, Vec, Global, List, [], ◌++◌, length, get_or, take, ◌∙◌, ap, subst, arith}
 use Rattle.std.specs.declared.alloc.AllocError.{AllocError}
 use Rattle.std.specs.List.{AllByRecursion}
+use Rattle.alter_disk.specs.declared.disk.Disk.{Ghosts}
 use Rattle.alter_disk.specs.Files.{Files}
 use Rattle.alter_disk.specs.Changes.{IfTold}
+use Rattle.alter_disk.specs.Rest.{KeepsRest}
 use Rattle.schema_rows.specs.declared.schema.SchemaRow.{SchemaRow}
 use Rattle.plain_sql.specs.Words.{IsRead}
+use Rattle.alter_cli.specs.declared.file.First.{First}
 use Rattle.alter_cli.specs.declared.header.Sizes.{Sizes}
+use Rattle.alter_cli.specs.Header.{IsHeader}
 use Rattle.alter_cli.specs.FirstPage.{HoldsRows}
-use Rattle.alter_cli.specs.Served.{IsOpening, HasFront, HasEmptyRoot, IsFront, IsFrontReadAs, OnlyReads}
-use Rattle.alter_cli.proofs.FileLemmas.{front_held, front_rows}
+use Rattle.alter_cli.specs.Served.{HasEmptyRoot, HasFirstPage, IsFirstPage, OnlyFirstPage, OnlyReads}
+use Rattle.alter_cli.specs.Sizes.{HasSizes}
+use Rattle.alter_cli.proofs.FileLemmas.{Filled, IsOpening, Lengths, first_read, front_held, front_rows, opening_read}
 use Rattle.alter_cli.proofs.ListLemmas.{all_more}
 
 -- page 1 was read exactly so
@@ -17,53 +22,81 @@ abbrev pub OnlyRows : List ℕ → ℕ → Option (Vec SchemaRow Global) → Typ
 OnlyRows page usable read = (list : List SchemaRow) → AllByRecursion (λ row. row.root < 2 ^ 31) list → HoldsRows page usable list
     → IsRead {E = AllocError} (λ rows. rows.items ≡ list) (Ok read)
 
--- each front is read so
-abbrev pub OnlyFront : Files → Option (Vec SchemaRow Global) → Type 0
-OnlyFront files read = (list : List SchemaRow) → AllByRecursion (λ row. row.root < 2 ^ 31) list → HasFront files list
+-- page 1 of the files is read so
+abbrev pub OnlyHeld : Files → Option (Vec SchemaRow Global) → Type 0
+OnlyHeld files read = (list : List SchemaRow) → AllByRecursion (λ row. row.root < 2 ^ 31) list → HasFirstPage files list
     → IsRead {E = AllocError} (λ rows. rows.items ≡ list) (Ok read)
 
--- what was read of page 1 is the front
-pub front_found : (told now : Option Files) (sizes : Sizes) (first page : List ℕ) (rows : List SchemaRow) → now ≡ told
-    → IfTold told (λ files. IsOpening files sizes first) → IfTold now (λ files. IsOpening files sizes first → page ≡ take sizes.page files.db)
-    → HoldsRows page sizes.usable rows → IfTold told (λ files. IsFront files sizes page rows)
-front_found None now sizes first page rows same opening bytes held = tt
-front_found (Some files) now sizes first page rows same opening bytes held =
-    let is = subst (λ t. IfTold t (λ f. IsOpening f sizes first → page ≡ take sizes.page f.db)) same bytes opening in
-    record {
-      sized = opening.sized;
-      bytes = is ∙ ap (λ (k : ℕ). take k files.db) opening.sized.page;
-      front = front_rows files sizes first page rows opening is held;
-    }
+-- the two lengths, each told by its call
+pub lengths_told : (told now : Option Files) (journal db : ℕ) → now ≡ told → IfTold told (λ files. journal ≡ length files.journal)
+    → IfTold now (λ files. db ≡ length files.db) → IfTold told (Lengths journal db)
+lengths_told None now journal db same empty long = tt
+lengths_told (Some files) now journal db same empty long = (empty, subst (λ t. IfTold t (λ f. db ≡ length f.db)) same long)
 
--- page 1 was read so, and so the front
-pub front_only : (told now : Option Files) (sizes : Sizes) (first page : List ℕ) (read : Option (Vec SchemaRow Global)) → now ≡ told
-    → IfTold told (λ files. IsOpening files sizes first) → IfTold now (λ files. IsOpening files sizes first → page ≡ take sizes.page files.db)
-    → OnlyRows page sizes.usable read → IfTold told (λ files. OnlyFront files read)
-front_only None now sizes first page read same opening bytes only = tt
-front_only (Some files) now sizes first page read same opening bytes only = λ list small front.
-    let is = subst (λ t. IfTold t (λ f. IsOpening f sizes first → page ≡ take sizes.page f.db)) same bytes opening in
-    only list small (front_held files sizes first page list opening is front)
+-- page 1 was read: its header, which is served, and what is behind it
+pub record IsPageRead (told : Option Files) (sizes : Sizes) (header page : List ℕ) : Type 0 where
+  pub opening : IfTold told (λ files. IsOpening files sizes header)
+  pub bytes : IfTold told (λ files. IsOpening files sizes header → page ≡ take sizes.page files.db)
+
+-- page 1 is read in two parts, behind the two lengths
+pub page_read : (told now later : Option Files) (journal db n : ℕ) (sizes : Sizes) (header front behind back page : List ℕ) → now ≡ told → later ≡ told
+    → IfTold told (Lengths journal db) → journal ≡ 0 → 100 ≤ db → IfTold now (Filled 0 100 header) → front ≡ header
+    → IsHeader front db × HasSizes front db sizes → n ≡ sizes.page - 100 → IfTold later (Filled 100 n behind) → back ≡ behind → page ≡ header ++ back
+    → IsPageRead told sizes header page
+page_read told now later journal db n sizes header front behind back page same kept lengths none long filled is found rest more there whole = record {
+  opening = opening_read told journal db header sizes lengths none long (subst (λ t. IfTold t (Filled 0 100 header)) same filled)
+      (subst (λ (h : List ℕ). IsHeader h db) is found.0) (subst (λ (h : List ℕ). HasSizes h db sizes) is found.1);
+  bytes = first_read told sizes header behind page n rest (subst (λ t. IfTold t (Filled 100 n behind)) kept more)
+      (whole ∙ ap (λ (b : List ℕ). header ++ b) there);
+}
+
+-- without a header that is served there is no page 1 that is
+pub no_first : (told : Option Files) → IfTold told (λ files. files.journal ≡ [] → IsHeader (take 100 files.db) (length files.db) → ⊥)
+    → IfTold told (OnlyFirstPage None)
+no_first None none = tt
+no_first (Some files) none = λ rows small has. none has.journal has.header
+
+-- what was read of page 1 is that of the files
+pub first_found : (told : Option Files) (first : First) (header : List ℕ) → IfTold told (λ files. IsOpening files first.sizes header)
+    → IfTold told (λ files. IsOpening files first.sizes header → first.page.items ≡ take first.sizes.page files.db)
+    → HoldsRows first.page.items first.sizes.usable first.rows.items → IfTold told (λ files. IsFirstPage files first)
+first_found None first header opening bytes held = tt
+first_found (Some files) first header opening bytes held = record {
+  sized = opening.sized;
+  bytes = bytes opening ∙ ap (λ (k : ℕ). take k files.db) opening.sized.page;
+  has = front_rows files first.sizes header first.page.items first.rows.items opening (bytes opening) held;
+}
+
+-- the rows of page 1 were read so, and so those of the files
+pub first_only : (told : Option Files) (sizes : Sizes) (header page : List ℕ) (read : Option (Vec SchemaRow Global))
+    → IfTold told (λ files. IsOpening files sizes header) → IfTold told (λ files. IsOpening files sizes header → page ≡ take sizes.page files.db)
+    → OnlyRows page sizes.usable read → IfTold told (λ files. OnlyHeld files read)
+first_only None sizes header page read opening bytes only = tt
+first_only (Some files) sizes header page read opening bytes only = λ list small has.
+    only list small (front_held files sizes header page list opening (bytes opening) has)
 
 -- where no rows were read
-pub as_front_none : (told : Option Files) (read : Option (Vec SchemaRow Global)) → read ≡ None → IfTold told (λ files. OnlyFront files read)
-    → IfTold told (λ files. (rows : List SchemaRow) → AllByRecursion (λ row. row.root < 2 ^ 31) rows → HasFront files rows → IsFrontReadAs rows None)
-as_front_none None read none only = tt
-as_front_none (Some files) read none only = λ rows small front.
-    subst (λ r. IsRead {E = AllocError} (λ (x : Vec SchemaRow Global). x.items ≡ rows) (Ok r)) none (only rows small front)
+pub as_first_none : (told : Option Files) (read : Option (Vec SchemaRow Global)) → read ≡ None → IfTold told (λ files. OnlyHeld files read)
+    → IfTold told (OnlyFirstPage None)
+as_first_none None read none only = tt
+as_first_none (Some files) read none only = λ rows small has.
+    subst (λ r. IsRead {E = AllocError} (λ (x : Vec SchemaRow Global). x.items ≡ rows) (Ok r)) none (only rows small has)
 
 -- where rows were read
-pub as_front_some : (told : Option Files) (read : Option (Vec SchemaRow Global)) (found : Vec SchemaRow Global) → read ≡ Some found
-    → IfTold told (λ files. OnlyFront files read)
-    → IfTold told (λ files. (rows : List SchemaRow) → AllByRecursion (λ row. row.root < 2 ^ 31) rows → HasFront files rows → found.items ≡ rows)
-as_front_some None read found some only = tt
-as_front_some (Some files) read found some only = λ rows small front.
-    subst (λ r. IsRead {E = AllocError} (λ (x : Vec SchemaRow Global). x.items ≡ rows) (Ok r)) some (only rows small front)
+pub as_first_some : (told : Option Files) (read : Option (Vec SchemaRow Global)) (first : First) → read ≡ Some first.rows
+    → IfTold told (λ files. OnlyHeld files read) → IfTold told (OnlyFirstPage (Some first))
+as_first_some None read first some only = tt
+as_first_some (Some files) read first some only = λ rows small has.
+    subst (λ r. IsRead {E = AllocError} (λ (x : Vec SchemaRow Global). x.items ≡ rows) (Ok r)) some (only rows small has)
+
+-- a call that tells a length only reads
+pub only_reads : {D : Type 0} (disk : Ghosts D) (a b : D) → disk.files b ≡ disk.files a → KeepsRest disk.label disk.called disk.opened disk.write_faults a b
+    → disk.read_faults a ≤ disk.read_faults b → OnlyReads disk a b
+only_reads disk a b files rest later = record { files = files; label = rest.label; called = rest.called; later = later; writes_stay = rest.other }
 
 -- calls that only read, and one more
-pub reads_again : {D : Type 0} (files_of : D → Option Files) (label_of : D → Option (List ℕ)) (was_called : D → Bool) (reads writes : D → ℕ) (a b c : D)
-    → OnlyReads files_of label_of was_called reads writes a b → OnlyReads files_of label_of was_called reads writes b c
-    → OnlyReads files_of label_of was_called reads writes a c
-reads_again files_of label_of was_called reads writes a b c first second =
+pub reads_again : {D : Type 0} (disk : Ghosts D) (a b c : D) → OnlyReads disk a b → OnlyReads disk b c → OnlyReads disk a c
+reads_again disk a b c first second =
     let before = first.later in
     let behind = second.later in
     record {

@@ -5,7 +5,7 @@ use Rattle.std.proofs.lemmas.Bool.Decides.{nat_tests}
 use Rattle.std.proofs.lemmas.List.{drop-drop, drop_at, length-take-le, take-append-drop, take-append-le, take-take, take_at}
 use Rattle.std.specs.List.{slice_get}
 use Rattle.alter_disk.specs.Files.{Files}
-use Rattle.alter_cli.specs.declared.form.Table.{Table}
+use Rattle.alter_cli.specs.declared.table.Table.{Table}
 use Rattle.alter_cli.specs.Image.{Image, Page, pages}
 use Rattle.alter_cli.specs.Header.{IsHeader, is_page_size, page_count, page_size}
 use Rattle.alter_cli.specs.FirstForm.{AreFiles, IsFirstForm, first_page, header_of}

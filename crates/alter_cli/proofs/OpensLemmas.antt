@@ -8,7 +8,7 @@ use Rattle.schema_rows.specs.declared.schema.SchemaRow.{SchemaRow}
 use Rattle.plain_sql.specs.Words.{IsRead}
 use Rattle.alter_cli.specs.declared.header.Sizes.{Sizes}
 use Rattle.alter_cli.specs.declared.file.First.{First}
-use Rattle.alter_cli.specs.declared.form.Table.{Table}
+use Rattle.alter_cli.specs.declared.table.Table.{Table}
 use Rattle.alter_cli.specs.declared.form.Form.{Form}
 use Rattle.alter_cli.specs.Image.{Image, Page, page_bytes}
 use Rattle.alter_cli.specs.Header.{page_count, page_size, usable_size}
@@ -16,7 +16,7 @@ use Rattle.alter_cli.specs.Sizes.{HasSizes, AreSound}
 use Rattle.alter_cli.specs.FirstPage.{HoldsRows, IsEmptyTable}
 use Rattle.alter_cli.specs.FirstForm.{AreApart, AreFiles, HasRoot, IsFirstForm, IsSpelled, first_page, header_of, rows_of}
 use Rattle.alter_cli.specs.Outcome.{Opens}
-use Rattle.alter_cli.specs.Served.{HasFront, HasEmptyRoot, IsFront, IsFrontReadAs, IsFrontReady, IsShortRow, IsReady, IsReadyTable, AreOfForm}
+use Rattle.alter_cli.specs.Served.{HasEmptyRoot, HasFirstPage, IsFirstPage, IsReadyFirst, IsShortRow, IsReady, IsReadyTable, AreOfForm, OnlyFirstPage}
 use Rattle.alter_cli.proofs.ListLemmas.{all_weaker}
 use Rattle.alter_cli.proofs.RowsLemmas.{no_truth}
 use Rattle.alter_cli.proofs.FileLemmas.{all_within}
@@ -26,8 +26,8 @@ use Rattle.alter_cli.proofs.ImageLemmas.{HasFirst, has_first, has_image, image_o
 first_of : (files : Files) (image : Image) (tables : List Table) → AreFiles files image → IsFirstForm image tables → HasFirst files image
 first_of files image tables are form = has_first files image are (some_page image (length image * page_size (header_of image)) form.stored.header)
 
--- the front of files with an image that is served
-front_of : (files : Files) (image : Image) (tables : List Table) → AreFiles files image → IsFirstForm image tables → HasFront files (rows_of tables)
+-- page 1 of files with an image that is served
+front_of : (files : Files) (image : Image) (tables : List Table) → AreFiles files image → IsFirstForm image tables → HasFirstPage files (rows_of tables)
 front_of files image tables are form =
     let first = first_of files image tables are form in
     record {
@@ -70,7 +70,7 @@ empty_root files image sizes row are first sized root =
     }
 
 -- a root that is there and empty in files is one of their image
-has_root : (files : Files) (sizes : Sizes) (rows : List SchemaRow) (row : SchemaRow) → HasFront files rows
+has_root : (files : Files) (sizes : Sizes) (rows : List SchemaRow) (row : SchemaRow) → HasFirstPage files rows
     → HasSizes (take 100 files.db) (length files.db) sizes → HasEmptyRoot files sizes row.root → HasRoot (image_of files) row
 has_root files sizes rows row front sized root =
     let has = has_image files front.journal front.header in
@@ -92,23 +92,19 @@ has_root files sizes rows row front sized root =
 abbrev pub AreUnserved : Files → Type 0
 AreUnserved files = (image : Image) → Opens files image → ⊥
 
--- fronts of the files are read only so
-abbrev pub OnlyFronts : Option First → Files → Type 0
-OnlyFronts read files = (rows : List SchemaRow) → AllByRecursion (λ row. row.root < 2 ^ 31) rows → HasFront files rows → IsFrontReadAs rows read
-
 -- the rows that were read are those of an image that opens the files
-rows_read : (files : Files) (image : Image) (first : First) (opens : Opens files image) → OnlyFronts (Some first) files → first.rows.items ≡ rows_of opens.tables
+rows_read : (files : Files) (image : Image) (first : First) (opens : Opens files image) → OnlyFirstPage (Some first) files → first.rows.items ≡ rows_of opens.tables
 rows_read files image first opens only =
     only (rows_of opens.tables) (small_roots files image opens.tables opens.files opens.form) (front_of files image opens.tables opens.files opens.form)
 
--- no front was read, so no file is served
-pub unserved_front : (told : Option Files) → IfTold told (OnlyFronts None) → IfTold told AreUnserved
-unserved_front None only = tt
-unserved_front (Some files) only = λ image opens.
+-- no page 1 was read, so no file is served
+pub unserved_first : (told : Option Files) → IfTold told (OnlyFirstPage None) → IfTold told AreUnserved
+unserved_first None only = tt
+unserved_first (Some files) only = λ image opens.
     only (rows_of opens.tables) (small_roots files image opens.tables opens.files opens.form) (front_of files image opens.tables opens.files opens.form)
 
 -- the rows that were read are not apart
-pub unserved_apart : (told : Option Files) (first : First) → IfTold told (OnlyFronts (Some first)) → (AllPairs AreApart first.rows.items → ⊥)
+pub unserved_apart : (told : Option Files) (first : First) → IfTold told (OnlyFirstPage (Some first)) → (AllPairs AreApart first.rows.items → ⊥)
     → IfTold told AreUnserved
 unserved_apart None first only none = tt
 unserved_apart (Some files) first only none = λ image opens.
@@ -120,12 +116,12 @@ HaveRoots sizes rows Have files = sizes.count * sizes.page ≤ length files.db �
 
 -- the rows that were read have no roots
 pub unserved_roots : (told now : Option Files) (first : First) → now ≡ told
-    → IfTold told (λ files. IsFront files first.sizes first.page.items first.rows.items) → IfTold told (OnlyFronts (Some first))
+    → IfTold told (λ files. IsFirstPage files first) → IfTold told (OnlyFirstPage (Some first))
     → IfTold now (HaveRoots first.sizes first.rows.items (IsTrue false)) → IfTold told AreUnserved
 unserved_roots None now first same front only roots = tt
 unserved_roots (Some files) now first same front only roots = λ image opens.
     let tables = opens.tables in
-    let is = subst (λ t. IfTold t (HaveRoots first.sizes first.rows.items (IsTrue false))) same roots (all_within files first.sizes front.front.header front.sized) in
+    let is = subst (λ t. IfTold t (HaveRoots first.sizes first.rows.items (IsTrue false))) same roots (all_within files first.sizes front.has.header front.sized) in
     let top = first_of files image tables opens.files opens.form in
     let empty = all_weaker (HasRoot image) (λ row. HasEmptyRoot files first.sizes row.root) (rows_of tables)
     (λ row root. empty_root files image first.sizes row opens.files top front.sized root) opens.form.stored.rooted in
@@ -133,7 +129,7 @@ unserved_roots (Some files) now first same front only roots = λ image opens.
     no_truth (is.1 (subst (λ (l : List SchemaRow). AllByRecursion (λ row. HasEmptyRoot files first.sizes row.root) l) rows empty))
 
 -- the text of a row that was read is none that is served
-pub unserved_text : (told : Option Files) (first : First) (read : Option (Vec Table Global)) → read ≡ None → IfTold told (OnlyFronts (Some first))
+pub unserved_text : (told : Option Files) (first : First) (read : Option (Vec Table Global)) → read ≡ None → IfTold told (OnlyFirstPage (Some first))
     → ((list : List Table) → rows_of list ≡ first.rows.items → AllByRecursion IsSpelled list
     → IsRead {E = AllocError} (λ tables. tables.items ≡ list) (Ok read))
     → IfTold told AreUnserved
@@ -144,15 +140,15 @@ unserved_text (Some files) first read none only texts = λ image opens.
 
 -- all that was read is the form of the image of the files
 pub form_found : (told now : Option Files) (first : First) (form : Form) → now ≡ told → form.sizes ≡ first.sizes → form.page ≡ first.page.items
-    → IfTold told (λ files. IsFront files first.sizes first.page.items first.rows.items)
+    → IfTold told (λ files. IsFirstPage files first)
     → IfTold now (HaveRoots first.sizes first.rows.items (IsTrue true)) → AllPairs AreApart first.rows.items
     → rows_of form.tables.items ≡ first.rows.items → AllByRecursion IsSpelled form.tables.items
     → IfTold told (λ files. AreOfForm files form)
 form_found None now first form same s p front roots apart rows spelled = tt
 form_found (Some files) now first form same s p front roots apart rows spelled =
     let tables = form.tables.items in
-    let has = has_image files front.front.journal front.front.header in
-    let is = subst (λ t. IfTold t (HaveRoots first.sizes first.rows.items (IsTrue true))) same roots (all_within files first.sizes front.front.header front.sized) in
+    let has = has_image files front.has.journal front.has.header in
+    let is = subst (λ t. IfTold t (HaveRoots first.sizes first.rows.items (IsTrue true))) same roots (all_within files first.sizes front.has.header front.sized) in
     let usable = ap usable_size (sym has.header) in
     record {
       image = image_of files;
@@ -163,11 +159,11 @@ form_found (Some files) now first form same s p front roots apart rows spelled =
             header = has.allowed;
             held = subst (λ (l : List SchemaRow). HoldsRows (first_page (image_of files)) (usable_size (header_of (image_of files))) l) (sym rows)
                 (subst (λ (g : List ℕ). HoldsRows g (usable_size (header_of (image_of files))) first.rows.items) (sym has.page)
-                (subst (λ (u : ℕ). HoldsRows (take (page_size (take 100 files.db)) files.db) u first.rows.items) usable front.front.held));
+                (subst (λ (u : ℕ). HoldsRows (take (page_size (take 100 files.db)) files.db) u first.rows.items) usable front.has.held));
             apart = subst (λ (l : List SchemaRow). AllPairs AreApart l) (sym rows) apart;
             rooted = subst (λ (l : List SchemaRow). AllByRecursion (HasRoot (image_of files)) l) (sym rows)
                 (all_weaker (λ row. HasEmptyRoot files first.sizes row.root) (HasRoot (image_of files)) first.rows.items
-                (λ row root. has_root files first.sizes first.rows.items row front.front front.sized root) (is.0 refl));
+                (λ row root. has_root files first.sizes first.rows.items row front.has front.sized root) (is.0 refl));
           };
           spelled = spelled;
         };
@@ -194,7 +190,7 @@ ready_tables page sizes (table ∷ tables) sound extent short there inside =
 
 -- all that was read is ready
 pub form_ready : (first : First) (form : Form) → form.sizes ≡ first.sizes → form.page ≡ first.page.items
-    → IsFrontReady first.sizes first.page.items first.rows.items → AllPairs AreApart first.rows.items
+    → IsReadyFirst first → AllPairs AreApart first.rows.items
     → AllByRecursion (λ row. (2 ≤ row.root) × (row.root ≤ first.sizes.count)) first.rows.items
     → rows_of form.tables.items ≡ first.rows.items → AllByRecursion (λ table. table.columns_end ≤ length table.row.text) form.tables.items
     → IsReady form

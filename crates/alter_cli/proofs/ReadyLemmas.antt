@@ -8,7 +8,7 @@ use Rattle.schema_rows.specs.Schema.{row_record}
 use Rattle.schema_rows.proofs.RowWritten.{length-row_record}
 use Rattle.plain_sql.specs.declared.script.Command.{Command}
 use Rattle.alter_cli.specs.declared.form.Form.{Form}
-use Rattle.alter_cli.specs.declared.form.Table.{Table}
+use Rattle.alter_cli.specs.declared.table.Table.{Table}
 use Rattle.alter_cli.specs.declared.plan.Plan.{Plan}
 use Rattle.alter_cli.specs.declared.plan.Plan.TheVariants as plans
 use Rattle.alter_cli.specs.declared.verdict.Refusal.TheVariants.{ColumnTaken, TooManyColumns, Unbuilt}

@@ -12,7 +12,7 @@ use Rattle.sql_token.specs.Names.{folded}
 use Rattle.plain_sql.specs.Words.{IsPlainWord}
 use Rattle.plain_sql.specs.declared.script.Command.{Command}
 use Rattle.schema_rows.specs.declared.schema.SchemaRow.{SchemaRow}
-use Rattle.alter_cli.specs.declared.form.Table.{Table}
+use Rattle.alter_cli.specs.declared.table.Table.{Table}
 use Rattle.alter_cli.specs.FirstForm.{AreApart, IsSpelled, rows_of}
 use Rattle.alter_cli.specs.Step.{added, after, has_column, is_named, same_name}
 use Rattle.plain_sql.proofs.Added.{spells_added}

@@ -8,7 +8,7 @@ use Rattle.plain_sql.specs.declared.script.Command.{Command}
 use Rattle.schema_rows.specs.declared.schema.SchemaRow.{SchemaRow}
 use Rattle.schema_rows.specs.Schema.{row_cell}
 use Rattle.alter_cli.specs.declared.form.Form.{Form}
-use Rattle.alter_cli.specs.declared.form.Table.{Table}
+use Rattle.alter_cli.specs.declared.table.Table.{Table}
 use Rattle.alter_cli.specs.declared.verdict.Refusal.{Refusal}
 use Rattle.alter_cli.specs.declared.verdict.Refusal.TheVariants.{ColumnTaken, TooManyColumns, Unbuilt}
 use Rattle.alter_cli.specs.declared.verdict.Verdict.{Verdict}

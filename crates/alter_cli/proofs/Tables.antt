@@ -10,7 +10,7 @@ use Rattle.std.specs.List.{AllByRecursion, find, list_any}
 use Rattle.std.specs.Option.{option_or}
 use Rattle.sql_token.specs.Names.{folded}
 use Rattle.plain_sql.specs.declared.script.Command.{Command}
-use Rattle.alter_cli.specs.declared.form.Table.{Table}
+use Rattle.alter_cli.specs.declared.table.Table.{Table}
 use Rattle.alter_cli.specs.FirstForm.{AreApart, rows_of}
 use Rattle.alter_cli.specs.Plan.{HasPlace, IsPlaceOf, put_at}
 use Rattle.alter_cli.specs.Step.{added, after, has_column, is_built, is_named, refusal_at, refusal_of}

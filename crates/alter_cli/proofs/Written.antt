@@ -9,7 +9,7 @@ use Rattle.page_cells.proofs.LayoutLemmas.{local_payload-whole, overflow_size-no
 use Rattle.schema_rows.specs.declared.schema.SchemaRow.{SchemaRow}
 use Rattle.schema_rows.specs.Schema.{row_cell, row_record}
 use Rattle.schema_rows.proofs.RowWritten.{IsSmall, row_cell-is}
-use Rattle.alter_cli.specs.declared.form.Table.{Table}
+use Rattle.alter_cli.specs.declared.table.Table.{Table}
 use Rattle.alter_cli.specs.FirstForm.{rows_of}
 use Rattle.alter_cli.specs.Plan.{put_at}
 use Rattle.alter_cli.specs.Step.{are_local, is_built}

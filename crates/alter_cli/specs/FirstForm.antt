@@ -4,7 +4,7 @@ use Rattle.std.specs.List.{AllByRecursion, slice_get}
 use Rattle.alter_disk.specs.Files.{Files}
 use Rattle.sql_token.specs.Names.{folded}
 use Rattle.schema_rows.specs.declared.schema.SchemaRow.{SchemaRow}
-use Rattle.alter_cli.specs.declared.form.Table.{Table}
+use Rattle.alter_cli.specs.declared.table.Table.{Table}
 use Rattle.alter_cli.specs.Image.{Page, Image, pages}
 use Rattle.alter_cli.specs.Header.{IsHeader, is_page_size, page_size, usable_size, page_count}
 use Rattle.alter_cli.specs.FirstPage.{HoldsRows, IsEmptyTable}

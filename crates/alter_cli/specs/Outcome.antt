@@ -3,7 +3,7 @@ use Rattle.std.specs.Prelude.{◌≡◌, ◌≤◌, ◌<◌, ℕ, ◌+◌, ◌�
 use Rattle.std.specs.List.{list_all}
 use Rattle.alter_disk.specs.Files.{Files}
 use Rattle.plain_sql.specs.declared.script.Command.{Command}
-use Rattle.alter_cli.specs.declared.form.Table.{Table}
+use Rattle.alter_cli.specs.declared.table.Table.{Table}
 use Rattle.alter_cli.specs.declared.verdict.Verdict.{Verdict}
 use Rattle.alter_cli.specs.declared.verdict.Verdict.TheVariants as verdicts
 use Rattle.alter_cli.specs.declared.status.Status.{Status}

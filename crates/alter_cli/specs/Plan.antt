@@ -8,7 +8,7 @@ use Rattle.schema_rows.specs.declared.schema.SchemaRow.{SchemaRow}
 use Rattle.schema_rows.specs.Schema.{row_cell}
 use Rattle.plain_sql.specs.declared.script.Command.{Command}
 use Rattle.alter_cli.specs.declared.form.Form.{Form}
-use Rattle.alter_cli.specs.declared.form.Table.{Table}
+use Rattle.alter_cli.specs.declared.table.Table.{Table}
 use Rattle.alter_cli.specs.declared.plan.Change.{Change}
 use Rattle.alter_cli.specs.declared.plan.Plan.{Plan}
 use Rattle.alter_cli.specs.declared.plan.Plan.TheVariants.{Refused, Changed}

@@ -1,51 +1,49 @@
 -- A file that is served, as far as it is read off its disk.
-use Rattle.std.specs.Prelude.{Bool, true, ◌≡◌, ◌≤◌, ℕ, ◌+◌, List, [], length, take, Option, Some, None, AllPairs}
+use Rattle.std.specs.Prelude.{true, ◌≡◌, ◌≤◌, ◌<◌, ℕ, ◌+◌, ◌^◌, List, [], length, take, Option, Result, IsErrOf, IsSomeAnd, AllPairs}
 use Rattle.std.specs.List.{AllByRecursion}
+use Rattle.alter_disk.specs.declared.disk.Disk.{Ghosts}
+use Rattle.alter_disk.specs.Faults.{Rose}
 use Rattle.alter_disk.specs.Files.{Files}
 use Rattle.schema_rows.specs.declared.schema.SchemaRow.{SchemaRow}
 use Rattle.alter_cli.specs.declared.header.Sizes.{Sizes}
-use Rattle.alter_cli.specs.declared.form.Table.{Table}
+use Rattle.alter_cli.specs.declared.table.Table.{Table}
 use Rattle.alter_cli.specs.declared.form.Form.{Form}
 use Rattle.alter_cli.specs.declared.file.First.{First}
+use Rattle.alter_cli.specs.declared.file.ReadFault.{ReadFault}
+use Rattle.alter_cli.specs.declared.file.ReadFault.TheVariants.{Failed}
 use Rattle.alter_cli.specs.Image.{Image, page_bytes}
 use Rattle.alter_cli.specs.Header.{IsHeader, page_size, usable_size}
 use Rattle.alter_cli.specs.Sizes.{HasSizes, AreSound}
 use Rattle.alter_cli.specs.FirstPage.{HoldsRows, IsEmptyTable}
 use Rattle.alter_cli.specs.FirstForm.{AreApart, AreFiles, IsFirstForm, first_page, header_of, rows_of}
 
--- no journal, and a database that begins with this header, of these sizes
-pub record IsOpening (files : Files) (sizes : Sizes) (first : List ℕ) : Type 0 where
-  pub journal : files.journal ≡ []
-  pub bytes : first ≡ take 100 files.db
-  pub header : IsHeader (take 100 files.db) (length files.db)
-  pub sized : HasSizes (take 100 files.db) (length files.db) sizes
-
 -- no journal, a header that is served, and these rows on page 1
-pub record HasFront (files : Files) (rows : List SchemaRow) : Type 0 where
+pub record HasFirstPage (files : Files) (rows : List SchemaRow) : Type 0 where
   pub journal : files.journal ≡ []
   pub header : IsHeader (take 100 files.db) (length files.db)
   pub held : HoldsRows (take (page_size (take 100 files.db)) files.db) (usable_size (take 100 files.db)) rows
 
--- the front of the files was read as these sizes, this page 1 and these rows
-pub record IsFront (files : Files) (sizes : Sizes) (page : List ℕ) (rows : List SchemaRow) : Type 0 where
-  pub sized : HasSizes (take 100 files.db) (length files.db) sizes
-  pub bytes : page ≡ take (page_size (take 100 files.db)) files.db
-  pub front : HasFront files rows
+-- page 1 of the files was read so
+pub record IsFirstPage (files : Files) (first : First) : Type 0 where
+  pub sized : HasSizes (take 100 files.db) (length files.db) first.sizes
+  pub bytes : first.page.items ≡ take (page_size (take 100 files.db)) files.db
+  pub has : HasFirstPage files first.rows.items
 
--- the rows of what was read are these
-abbrev pub IsFrontReadAs : List SchemaRow → Option First → Type 0
-IsFrontReadAs rows (Some first) = first.rows.items ≡ rows
-IsFrontReadAs rows None = ⊥
+-- the rows whose roots are numbers of pages are those that were read, if page 1 of the files holds such
+abbrev pub OnlyFirstPage : Option First → Files → Type 0
+OnlyFirstPage read files =
+    (rows : List SchemaRow) → AllByRecursion (λ row. row.root < 2 ^ 31) rows → HasFirstPage files rows
+    → IsSomeAnd read (λ first. first.rows.items ≡ rows)
 
 -- the row is no longer than its page
 abbrev pub IsShortRow : List ℕ → SchemaRow → Type 0
 IsShortRow page row = length row.name + length row.table + length row.text ≤ length page
 
--- what holds of every front that is read
-pub record IsFrontReady (sizes : Sizes) (page : List ℕ) (rows : List SchemaRow) : Type 0 where
-  pub sound : AreSound sizes
-  pub extent : length page ≡ sizes.page
-  pub lengths : AllByRecursion (IsShortRow page) rows
+-- what holds of every page 1 that is read, whatever the disk tells
+pub record IsReadyFirst (first : First) : Type 0 where
+  pub sound : AreSound first.sizes
+  pub extent : length first.page.items ≡ first.sizes.page
+  pub lengths : AllByRecursion (IsShortRow first.page.items) first.rows.items
 
 -- the root is a page of the file behind the first, and an empty table
 pub record HasEmptyRoot (files : Files) (sizes : Sizes) (root : ℕ) : Type 0 where
@@ -83,17 +81,22 @@ pub record IsReady (form : Form) : Type 0 where
   pub apart : AllPairs AreApart (rows_of form.tables.items)
 
 -- calls that only read changed no byte and did not fail to write
-pub record OnlyReads {D : Type 0} (files_of : D → Option Files) (label_of : D → Option (List ℕ)) (was_called : D → Bool) (reads writes : D → ℕ) (old new : D) : Type 0 where
-  pub files : files_of new ≡ files_of old
-  pub label : label_of new ≡ label_of old
-  pub called : was_called new ≡ was_called old
-  pub later : reads old ≤ reads new
-  pub writes_stay : writes new ≡ writes old
+pub record OnlyReads {D : Type 0} (disk : Ghosts D) (old new : D) : Type 0 where
+  pub files : disk.files new ≡ disk.files old
+  pub label : disk.label new ≡ disk.label old
+  pub called : disk.called new ≡ disk.called old
+  pub later : disk.read_faults old ≤ disk.read_faults new
+  pub writes_stay : disk.write_faults new ≡ disk.write_faults old
 
 -- the same of a call of `open` and of those behind it
-pub record OnlyOpens {D : Type 0} (files_of : D → Option Files) (label_of : D → Option (List ℕ)) (was_called : D → Bool) (reads writes : D → ℕ) (old new : D) : Type 0 where
-  pub files : files_of new ≡ files_of old
-  pub label : label_of new ≡ label_of old
-  pub called : was_called new ≡ true
-  pub later : reads old ≤ reads new
-  pub writes_stay : writes new ≡ writes old
+pub record OnlyOpens {D : Type 0} (disk : Ghosts D) (old new : D) : Type 0 where
+  pub files : disk.files new ≡ disk.files old
+  pub label : disk.label new ≡ disk.label old
+  pub called : disk.called new ≡ true
+  pub later : disk.read_faults old ≤ disk.read_faults new
+  pub writes_stay : disk.write_faults new ≡ disk.write_faults old
+
+-- the disk was only read, and where it failed, its count of faults at reading rose
+pub record HasRead {D T : Type 0} (disk : Ghosts D) (old new : D) (result : Result T ReadFault) : Type 0 where
+  pub only : OnlyReads disk old new
+  pub failed : IsErrOf result Failed → Rose (disk.read_faults old) (disk.read_faults new)

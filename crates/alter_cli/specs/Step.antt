@@ -6,7 +6,7 @@ use Rattle.page_cells.specs.Layout.{pointer_place}
 use Rattle.page_cells.specs.Write.{rooms, written_page}
 use Rattle.sql_token.specs.Names.{folded}
 use Rattle.schema_rows.specs.declared.schema.SchemaRow.{SchemaRow}
-use Rattle.alter_cli.specs.declared.form.Table.{Table}
+use Rattle.alter_cli.specs.declared.table.Table.{Table}
 use Rattle.plain_sql.specs.declared.script.Command.{Command}
 use Rattle.alter_cli.specs.declared.verdict.Refusal.{Refusal}
 use Rattle.alter_cli.specs.declared.verdict.Refusal.TheVariants.{NoSuchTable, ColumnTaken, TooManyColumns, Unbuilt}

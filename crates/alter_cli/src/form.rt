@@ -1,26 +1,26 @@
-//! A file that is served, as far as it is read.
-ghost use Rattle.std.specs.Prelude.{◌≡◌, ◌≢◌, List, ◌≤◌, ◌↔◌, codes, length, take, IsTrue, IfOk, IfSome};
-ghost use Rattle.std.specs.List.{AllByRecursion};
-ghost use Rattle.sql_token.specs.Names.{folded};
-ghost use Rattle.plain_sql.specs.Words.{IsRead};
-ghost use Rattle.alter_cli.specs.FirstForm.{IsSpelled, HasItsName, rows_of};
-ghost use Rattle.alter_cli.specs.declared.form.Table.{Table};
+//! A file that is served, as far as it is read, and what a command makes of it.
+ghost use Rattle.std.specs.Prelude.{◌≡◌, ◌<◌, ◌≤◌, ◌^◌, ◌++◌, [], ◌∷◌, map, length, false, All, IsTrue, IfOk, IfSome, IfNone};
+ghost use Rattle.std.specs.List.{AllByRecursion, list_any};
+ghost use Rattle.page_cells.specs.Write.{IsWholeCell};
+ghost use Rattle.schema_rows.specs.Schema.{row_cell};
+ghost use Rattle.alter_cli.specs.FirstForm.{rows_of};
+ghost use Rattle.alter_cli.specs.Step.{are_local, is_named};
+ghost use Rattle.alter_cli.specs.Served.{IsReady, IsReadyTable};
+ghost use Rattle.alter_cli.specs.Plan.{Plans, HasPlace, IsSmallRow, AreCellsWith, IsPageWith, HasRoomFor, IsTaken, KeepsExtent, put_at};
 
-use crate::header::Sizes;
+use crate::header::{HEADER_LEN, Sizes, commit};
+use crate::plan::{Change, Plan};
+use crate::table::Table;
+use crate::verdict::Refusal;
 use alter_bytes::Bytes;
-use plain_sql::{Names, TableText, read_table};
+use page_cells::{Kind, fits, write_page};
+use plain_sql::Command;
 use schema_rows::SchemaRow;
 use sql_token::same_name;
 use std::alloc::{AllocError, Global};
 
-/// A table: its row of the schema, and what its text says.
-#[derive(Drop)]
-pub struct Table {
-    pub row: SchemaRow,
-    pub columns: Names,
-    /// The offset in the text behind the last column.
-    pub columns_end: usize,
-}
+/// The most columns of a table (limits.html, "Maximum Number Of Columns").
+const MAX_COLUMNS: usize = 2000;
 
 /// A file that is served: its page 1 and its tables, in the order of their rows.
 #[derive(Drop)]
@@ -30,60 +30,162 @@ pub struct Form {
     pub tables: Vec<Table>,
 }
 
-/// Whether the name begins as those of SQLite's own tables do.
-fn is_of_sqlite(name: &[u8]) -> bool
-    ensures { IsTrue result ↔ (folded (take 7 name.now) ≡ codes "sqlite_") }
+/// Adds the row's cell, if its payload is all local, and says whether it is.
+fn push_cell(
+    alloc: Global,
+    usable: usize,
+    row: &SchemaRow,
+    cells: &mut Vec<Bytes>,
+) -> Result<bool, AllocError>
+    requires least { 35 ≤ usable }
+    requires small { IsSmallRow row.now }
+    requires whole { All (IsWholeCell usable) cells.old.items }
+    ensures local { IfOk result (λ local. local ≡ are_local usable (row.now ∷ [])) }
+    ensures cells { IfOk result (λ local. IsTrue local → cells.new.items ≡ cells.old.items ++ row_cell row.now ∷ []) }
+    ensures whole { IfOk result (λ local. IsTrue local → All (IsWholeCell usable) cells.new.items) }
 {
-    same_name(&name[..name.len().min(7)], b"sqlite_")
-}
-
-/// Whether the text's name is the one of both fields of the row, and not one of SQLite's own.
-fn has_its_name(name: &[u8], row: &SchemaRow) -> bool
-    ensures { IsTrue result ↔ HasItsName name.now row.now }
-{
-    same_name(name, row.name.as_slice())
-        && same_name(name, row.table.as_slice())
-        && !is_of_sqlite(name)
-}
-
-/// The table of a row, if its text is one that is served.
-fn table_of(alloc: Global, row: SchemaRow) -> Result<Option<Table>, AllocError>
-    ensures found { IfOk result (λ read. IfSome read (λ table. (table.row ≡ row) × IsSpelled table)) }
-    ensures inside { IfOk result (λ read. IfSome read (λ table. table.columns_end ≤ length table.row.text)) }
-    ensures only { (table : Table) → table.row ≡ row → IsSpelled table → IsRead (λ read. read ≡ table) result }
-{
-    let Some(
-        TableText {
-            name,
-            columns,
-            columns_end,
-        },
-    ) = read_table(alloc, row.text.as_slice())?
-    else {
-        return Ok(None);
-    };
-    if !has_its_name(name.as_slice(), &row) || !columns.are_apart() {
-        return Ok(None);
+    // A rowid of 32 bits has a varint.
+    prove!(row.rowid <= u32::MAX);
+    let record = row.record(alloc)?;
+    if record.len() > usable - 35 {
+        return Ok(false);
     }
-    Ok(Some(Table {
-        row,
-        columns,
-        columns_end,
-    }))
+    cells.push(row.cell(alloc)?)?;
+    Ok(true)
 }
 
-/// The tables of the rows, if each text is one that is served.
-pub fn tables_of(alloc: Global, rows: Vec<SchemaRow>) -> Result<Option<Vec<Table>>, AllocError>
-    ensures found { IfOk result (λ read. IfSome read (λ tables. (rows_of tables.items ≡ rows.items) × AllByRecursion IsSpelled tables.items)) }
-    ensures inside { IfOk result (λ read. IfSome read (λ tables. AllByRecursion (λ table. table.columns_end ≤ length table.row.text) tables.items)) }
-    ensures only { (list : List Table) → rows_of list ≡ rows.items → AllByRecursion IsSpelled list → IsRead (λ read. read.items ≡ list) result }
+/// Adds the cells of the tables' rows, if their payloads are all local, and says whether they are.
+fn push_cells(
+    alloc: Global,
+    usable: usize,
+    tables: &[Table],
+    cells: &mut Vec<Bytes>,
+) -> Result<bool, AllocError>
+    requires least { 35 ≤ usable }
+    requires ready { AllByRecursion IsReadyTable tables.now }
+    requires whole { All (IsWholeCell usable) cells.old.items }
+    ensures local { IfOk result (λ local. local ≡ are_local usable (rows_of tables.now)) }
+    ensures cells { IfOk result (λ local. IsTrue local → cells.new.items ≡ cells.old.items ++ map row_cell (rows_of tables.now)) }
+    ensures whole { IfOk result (λ local. IsTrue local → All (IsWholeCell usable) cells.new.items) }
 {
-    let mut tables = Vec::new(alloc);
-    for row in rows {
-        match table_of(alloc, row)? {
-            Some(table) => tables.push(table)?,
-            None => return Ok(None),
+    for table in tables {
+        if !push_cell(alloc, usable, &table.row, cells)? {
+            return Ok(false);
         }
     }
-    Ok(Some(tables))
+    Ok(true)
+}
+
+impl Form {
+    /// The place of the table that the command is about.
+    fn place_of(&self, command: &Command) -> Option<usize>
+        ensures found { IfSome result (HasPlace command.now self.now.tables.items) }
+        ensures none { IfNone result (list_any (is_named command.now) self.now.tables.items ≡ false) }
+    {
+        for place in 0..self.tables.len() {
+            let table = &self.tables[place];
+            if same_name(command.table.as_slice(), table.row.name.as_slice()) {
+                return Some(place);
+            }
+        }
+        None
+    }
+
+    /// The cells of the rows, with this one in place of the row at `place`, if all payloads are local.
+    fn cells_with(
+        &self,
+        alloc: Global,
+        place: usize,
+        row: &SchemaRow,
+    ) -> Result<Option<Vec<Bytes>>, AllocError>
+        requires ready { IsReady self.now }
+        requires place { place < length self.now.tables.items }
+        requires small { IsSmallRow row.now }
+        ensures { IfOk result (AreCellsWith self.now.sizes.usable (put_at place row.now (rows_of self.now.tables.items))) }
+    {
+        let usable = self.sizes.usable as usize;
+        let mut cells = Vec::new(alloc);
+        let (front, behind) = self.tables.as_slice().split_at(place);
+        if push_cells(alloc, usable, front, &mut cells)?
+            && push_cell(alloc, usable, row, &mut cells)?
+            && push_cells(alloc, usable, &behind[1..], &mut cells)?
+        {
+            Ok(Some(cells))
+        } else {
+            Ok(None)
+        }
+    }
+
+    /// Page 1 with the header of a committed change and with this row in place of the one at `place`, if
+    /// the rows have room there.
+    fn page_with(
+        &self,
+        alloc: Global,
+        place: usize,
+        row: &SchemaRow,
+    ) -> Result<Option<Bytes>, AllocError>
+        requires ready { IsReady self.now }
+        requires place { place < length self.now.tables.items }
+        requires small { IsSmallRow row.now }
+        ensures page { IfOk result (IsPageWith self.now (put_at place row.now (rows_of self.now.tables.items))) }
+        ensures extent { IfOk result (λ made. IfSome made (λ page. length page ≡ length self.now.page)) }
+    {
+        let usable = self.sizes.usable as usize;
+        let Some(cells) = self.cells_with(alloc, place, row)? else {
+            return Ok(None);
+        };
+        if !fits(true, usable, Kind::TableLeaf, cells.as_slice()) {
+            return Ok(None);
+        }
+        let mut page = Vec::from_slice(alloc, self.page.as_slice())?;
+        let (header, _) = page.split_at_mut(HEADER_LEN);
+        commit(header, self.sizes.count);
+        write_page(
+            page.as_mut_slice(),
+            true,
+            usable,
+            Kind::TableLeaf,
+            None,
+            cells.as_slice(),
+        );
+        Ok(Some(Bytes::new(page)))
+    }
+
+    /// The first restriction that the command breaks, or what it changes.
+    pub fn plan(&self, alloc: Global, command: &Command) -> Result<Plan, AllocError>
+        requires ready { IsReady self.now }
+        requires column { length command.now.column < 2 ^ 30 }
+        ensures plan { IfOk result (Plans self.now command.now) }
+        ensures extent { IfOk result (KeepsExtent self.now) }
+    {
+        let Some(place) = self.place_of(command) else {
+            return Ok(Plan::Refused(Refusal::NoSuchTable));
+        };
+        let table = &self.tables[place];
+        if table.columns.contains_folded(command.column.as_slice()) {
+            return Ok(Plan::Refused(Refusal::ColumnTaken));
+        }
+        if table.columns.len() >= MAX_COLUMNS {
+            return Ok(Plan::Refused(Refusal::TooManyColumns));
+        }
+        let table = table.with_column(alloc, command)?;
+        match self.page_with(alloc, place, &table.row)? {
+            Some(page) => Ok(Plan::Changed(Change { page, place, table })),
+            None => Ok(Plan::Refused(Refusal::Unbuilt)),
+        }
+    }
+
+    /// Takes over what the plan changes. It takes no memory.
+    pub fn take(&mut self, plan: Plan)
+        requires { HasRoomFor self.old plan }
+        ensures { IsTaken self.old plan self.new }
+    {
+        match plan {
+            Plan::Refused(_) => {}
+            Plan::Changed(Change { page, place, table }) => {
+                self.page = page;
+                self.tables[place] = table;
+            }
+        }
+    }
 }

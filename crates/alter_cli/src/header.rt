@@ -3,10 +3,61 @@ ghost use Rattle.std.specs.Prelude.{◌≡◌, ◌≤◌, ◌<◌, ◌+◌, ◌*
 ghost use Rattle.alter_cli.specs.Header as spec;
 ghost use Rattle.alter_cli.specs.Sizes.{HasSizes, AreSound};
 
+use alter_bytes::write_u32;
 use byteorder::{BigEndian, ByteOrder};
 
-/// The bytes of a header.
+/// The bytes of the header.
 pub const HEADER_LEN: usize = 100;
+
+// The offsets of its fields, in bytes from 0.
+/// Two bytes ("Page Size").
+const PAGE_SIZE_AT: usize = 16;
+/// One byte ("File format version numbers").
+const WRITE_VERSION_AT: usize = 18;
+/// One byte ("File format version numbers").
+const READ_VERSION_AT: usize = 19;
+/// One byte ("Reserved bytes per page").
+const RESERVED_AT: usize = 20;
+/// Three bytes ("Payload Fractions").
+const FRACTIONS_AT: usize = 21;
+/// Four bytes, as all that follow ("File Change Counter").
+const CHANGE_COUNTER_AT: usize = 24;
+/// "In-Header Database Size".
+const PAGE_COUNT_AT: usize = 28;
+/// The first trunk page ("Free Page List").
+const FREELIST_AT: usize = 32;
+/// The number of free pages ("Free Page List").
+const FREE_PAGES_AT: usize = 36;
+/// "Schema Cookie".
+const SCHEMA_COOKIE_AT: usize = 40;
+/// "Schema Format Number".
+const SCHEMA_FORMAT_AT: usize = 44;
+/// "Incremental Vacuum Settings".
+const LARGEST_ROOT_AT: usize = 52;
+/// "Text Encoding".
+const TEXT_ENCODING_AT: usize = 56;
+/// "Incremental Vacuum Settings".
+const INCREMENTAL_VACUUM_AT: usize = 64;
+/// "Write library version number and version-valid-for number".
+const VERSION_VALID_FOR_AT: usize = 92;
+
+/// The least usable bytes of a page ("Reserved bytes per page").
+const LEAST_USABLE: u32 = 480;
+
+/// The highest schema format ("Schema Format Number").
+const MAX_FORMAT: u32 = 4;
+
+/// The schema format that an added column wants at least ("Schema Format Number").
+const ADDED_FORMAT: u32 = 3;
+
+/// The number of UTF-8 ("Text Encoding"). A file without a text may have 0.
+const UTF_8: u32 = 1;
+
+/// The most pages of a file that is served so far.
+const MAX_PAGES: u64 = 65536;
+
+/// The most bytes of a file that is served so far.
+const MAX_FILE_LEN: u64 = 1 << 28;
 
 /// The sizes of a file: of a page and of its usable part in bytes, and of the file in pages.
 #[derive(Clone, Copy)]
@@ -17,18 +68,19 @@ pub struct Sizes {
 }
 
 /// A field of four bytes.
-pub fn number_at(header: &[u8], at: usize) -> u32
+fn u32_at(header: &[u8], at: usize) -> u32
     requires { at + 4 ≤ length header.now }
     ensures { result ≡ spec.number_at 4 at header.now }
 {
     BigEndian::read_u32(&header[at..])
 }
 
+/// The page size in bytes; the field's 1 stands for 65536.
 fn page_size(header: &[u8]) -> u32
     requires { length header.now ≡ HEADER_LEN }
     ensures { result ≡ spec.page_size header.now }
 {
-    match BigEndian::read_u16(&header[16..]) {
+    match BigEndian::read_u16(&header[PAGE_SIZE_AT..]) {
         1 => 65536,
         size => size as u32,
     }
@@ -50,9 +102,9 @@ fn has_fixed_bytes(header: &[u8]) -> bool
     ensures { IsTrue result ↔ spec.HasFixedBytes header.now }
 {
     &header[..16] == b"SQLite format 3\0".as_slice()
-        && header[18] == 1
-        && header[19] == 1
-        && &header[21..24] == [64, 32, 32].as_slice()
+        && header[WRITE_VERSION_AT] == 1
+        && header[READ_VERSION_AT] == 1
+        && &header[FRACTIONS_AT..FRACTIONS_AT + 3] == [64, 32, 32].as_slice()
 }
 
 /// Whether the fields say: no freelist, no vacuum, UTF-8, a schema format that is known.
@@ -60,12 +112,12 @@ fn has_served_fields(header: &[u8]) -> bool
     requires { length header.now ≡ HEADER_LEN }
     ensures { IsTrue result ↔ spec.HasServedFields header.now }
 {
-    number_at(header, 32) == 0
-        && number_at(header, 36) == 0
-        && number_at(header, 44) <= 4
-        && number_at(header, 52) == 0
-        && number_at(header, 56) <= 1
-        && number_at(header, 64) == 0
+    u32_at(header, FREELIST_AT) == 0
+        && u32_at(header, FREE_PAGES_AT) == 0
+        && u32_at(header, SCHEMA_FORMAT_AT) <= MAX_FORMAT
+        && u32_at(header, LARGEST_ROOT_AT) == 0
+        && u32_at(header, TEXT_ENCODING_AT) <= UTF_8
+        && u32_at(header, INCREMENTAL_VACUUM_AT) == 0
 }
 
 /// The size in pages of a file of `len` bytes.
@@ -75,8 +127,8 @@ fn page_count(header: &[u8], page_size: u32, len: u64) -> u64
     requires some { 0 < page_size }
     ensures { result ≡ spec.page_count header.now len }
 {
-    let count = number_at(header, 28);
-    if count != 0 && number_at(header, 24) == number_at(header, 92) {
+    let count = u32_at(header, PAGE_COUNT_AT);
+    if count != 0 && u32_at(header, CHANGE_COUNTER_AT) == u32_at(header, VERSION_VALID_FOR_AT) {
         count as u64
     } else {
         len / page_size as u64
@@ -91,16 +143,20 @@ pub fn read_header(header: &[u8], len: u64) -> Option<Sizes>
     ensures sound { IfSome result AreSound }
 {
     let page = page_size(header);
-    if len < 100 || !is_page_size(page) || !has_fixed_bytes(header) || !has_served_fields(header) {
+    if len < HEADER_LEN as u64
+        || !is_page_size(page)
+        || !has_fixed_bytes(header)
+        || !has_served_fields(header)
+    {
         return None;
     }
-    let usable = page - header[20] as u32;
+    let usable = page - header[RESERVED_AT] as u32;
     let count = page_count(header, page, len);
-    if usable < 480 || count == 0 || count > 65536 {
+    if usable < LEAST_USABLE || count == 0 || count > MAX_PAGES {
         return None;
     }
     let size = count * page as u64;
-    if size > 1 << 28 || size != len {
+    if size > MAX_FILE_LEN || size != len {
         return None;
     }
     Some(Sizes {
@@ -108,4 +164,20 @@ pub fn read_header(header: &[u8], len: u64) -> Option<Sizes>
         usable,
         count: count as u32,
     })
+}
+
+/// Makes of the header that of the file after a committed change: one more change and one more schema,
+/// and the file's size in pages.
+pub fn commit(header: &mut [u8], count: u32)
+    requires { length header.old ≡ HEADER_LEN }
+    ensures { header.new ≡ spec.committed count ADDED_FORMAT header.old }
+{
+    let counter = u32_at(header, CHANGE_COUNTER_AT).wrapping_add(1);
+    let cookie = u32_at(header, SCHEMA_COOKIE_AT).wrapping_add(1);
+    let format = u32_at(header, SCHEMA_FORMAT_AT).max(ADDED_FORMAT);
+    write_u32(header, CHANGE_COUNTER_AT, counter);
+    write_u32(header, PAGE_COUNT_AT, count);
+    write_u32(header, SCHEMA_COOKIE_AT, cookie);
+    write_u32(header, SCHEMA_FORMAT_AT, format);
+    write_u32(header, VERSION_VALID_FOR_AT, counter);
 }

@@ -14,6 +14,7 @@ mod script_text;
 mod sink;
 mod status;
 mod stop;
+mod table;
 mod verdict;
 
 pub use perform::{Ended, sqlalter};

@@ -45,7 +45,7 @@ fn open<D: Disk>(disk: &mut D, name: &str) -> Result<(), ReadFault>
     requires first { D.called disk.old ≡ false }
     requires name { IfSome (D.label disk.old) (λ known. name.now ≡ known) }
     ensures failed { IsErrOf result ReadFault.Failed → Rose (D.read_faults disk.old) (D.read_faults disk.new) }
-    ensures reads { OnlyOpens D.files D.label D.called D.read_faults D.write_faults disk.old disk.new }
+    ensures reads { OnlyOpens D.Disk disk.old disk.new }
 {
     match disk.open(name) {
         Ok(()) => Ok(()),
@@ -61,7 +61,7 @@ pub fn open_form<D: Disk>(alloc: Global, disk: &mut D, name: &str) -> Result<For
     ensures ready { IfOk result IsReady }
     ensures found { IfOk result (λ form. IfTold (D.files disk.old) (λ files. AreOfForm files form)) }
     ensures stop { IfErr result (NoForm (Rose (D.read_faults disk.old) (D.read_faults disk.new)) (D.files disk.old)) }
-    ensures reads { OnlyOpens D.files D.label D.called D.read_faults D.write_faults disk.old disk.new }
+    ensures reads { OnlyOpens D.Disk disk.old disk.new }
 {
     open(disk, name)?;
     match read_form(alloc, disk)? {

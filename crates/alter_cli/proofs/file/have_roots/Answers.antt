@@ -6,8 +6,6 @@ use Rattle.alter_cli.proofs.file.have_roots.Goals as goal
 pub loop-row-preserved : goal.loop-row-preserved
 loop-row-preserved g c =
     let files = g.D.Disk.files in
-    let reads = g.D.Disk.read_faults in
-    let writes = g.D.Disk.write_faults in
     let at = c.loop-row in
     let sizes = c.args.sizes.now in
     let rows = c.args.rows.now in
@@ -16,5 +14,5 @@ loop-row-preserved g c =
           (c.in_ok-has_root.ensures.there c.if-not-branch.false);
       told = roots_more (files c.args.disk.now) (files at.disk) sizes rows at.row-index c.row-item.result c.in_ok-has_root.field-0 at.invariant.reads.files
           c.loop-row-test.true c.row-item.is c.if-not-branch.false at.invariant.told c.in_ok-has_root.ensures.told;
-      reads = reads_again files g.D.Disk.label g.D.Disk.called reads writes c.args.disk.now at.disk c.has_root.new.disk at.invariant.reads c.in_ok-has_root.ensures.reads;
+      reads = reads_again g.D.Disk c.args.disk.now at.disk c.has_root.new.disk at.invariant.reads c.in_ok-has_root.ensures.reads.only;
     }

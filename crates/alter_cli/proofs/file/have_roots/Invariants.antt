@@ -10,5 +10,5 @@ invariant-loop-row g l = record {
   there : AllByRecursion (λ row. (2 ≤ row.root) × (row.root ≤ l.sizes.count)) (take l.row-index l.rows);
   told : IfTold (g.D.Disk.files l.fn.disk) (λ files. l.sizes.count * l.sizes.page ≤ length files.db
       → AllByRecursion (λ row. HasEmptyRoot files l.sizes row.root) (take l.row-index l.rows));
-  reads : OnlyReads g.D.Disk.files g.D.Disk.label g.D.Disk.called g.D.Disk.read_faults g.D.Disk.write_faults l.fn.disk l.disk;
+  reads : OnlyReads g.D.Disk l.fn.disk l.disk;
 }

@@ -5,16 +5,16 @@ use Rattle.schema_rows.specs.declared.schema.SchemaRow.{SchemaRow}
 use Rattle.alter_cli.specs.declared.form.Form.{Form}
 use Rattle.alter_cli.specs.FirstForm.{AreApart}
 use Rattle.alter_cli.proofs.RowsLemmas.{no_truth}
-use Rattle.alter_cli.proofs.OpensLemmas.{HaveRoots, unserved_front, unserved_apart, unserved_roots, unserved_text, form_found, form_ready}
+use Rattle.alter_cli.proofs.OpensLemmas.{HaveRoots, unserved_first, unserved_apart, unserved_roots, unserved_text, form_found, form_ready}
 use Rattle.alter_cli.proofs.file.read_form.Goals as goal
 
 pub returns-in_default-clause-unserved : goal.returns-in_default-clause-unserved
-returns-in_default-clause-unserved g c = unserved_front (g.D.Disk.files c.args.disk.now) (rw c.in_default.is at c.in_ok-sizes.ensures.only)
+returns-in_default-clause-unserved g c = unserved_first (g.D.Disk.files c.args.disk.now) (rw c.in_default.is at c.in_ok-sizes.ensures.only)
 
 pub returns-then-not-are_apart-clause-unserved : goal.returns-then-not-are_apart-clause-unserved
 returns-then-not-are_apart-clause-unserved g c =
     let told = g.D.Disk.files c.args.disk.now in
-    let now = g.D.Disk.files c.read_front.new.disk in
+    let now = g.D.Disk.files c.read_first.new.disk in
     let first = c.in-Some.field-0 in
     let only = rw c.in-Some.is at c.in_ok-sizes.ensures.only in
     elim c.then-not-are_apart.branch [
@@ -22,7 +22,7 @@ returns-then-not-are_apart-clause-unserved g c =
           unserved_apart told first only
           (λ apart. no_truth (w.if-not-are_apart.ensures.1 (subst (λ (l : List SchemaRow). AllPairs AreApart l) (sym c.as_slice.ensures.value) apart)))
       | goal.then-not-are_apart-via-else-not-are_apart+in_ok-have_roots+then-not-branch w ↦
-          unserved_roots told now first c.in_ok-sizes.ensures.reads.files (rw c.in-Some.is at c.in_ok-sizes.ensures.found) only
+          unserved_roots told now first c.in_ok-sizes.ensures.reads.only.files (rw c.in-Some.is at c.in_ok-sizes.ensures.found) only
           (subst (λ (l : List SchemaRow). IfTold now (HaveRoots first.sizes l (IsTrue false))) w.as_slice-else-not-are_apart.ensures.value
           (rw w.if-not-branch.true at w.in_ok-have_roots.ensures.told))
     ]
@@ -41,11 +41,11 @@ returns-in-Some-2-clause-ready g c =
 pub returns-in-Some-2-clause-found : goal.returns-in-Some-2-clause-found
 returns-in-Some-2-clause-found g c =
     let told = g.D.Disk.files c.args.disk.now in
-    let now = g.D.Disk.files c.read_front.new.disk in
+    let now = g.D.Disk.files c.read_first.new.disk in
     let first = c.in-Some.field-0 in
     let form : Form = record { sizes = first.sizes; page = c.new.result; tables = c.in-Some-2.tables } in
     let found = rw c.in-Some-2.is at c.in_ok-tables.ensures.found in
-    form_found told now first form c.in_ok-sizes.ensures.reads.files refl c.new.ensures (rw c.in-Some.is at c.in_ok-sizes.ensures.found)
+    form_found told now first form c.in_ok-sizes.ensures.reads.only.files refl c.new.ensures (rw c.in-Some.is at c.in_ok-sizes.ensures.found)
     (subst (λ (l : List SchemaRow). IfTold now (HaveRoots first.sizes l (IsTrue true))) c.as_slice-else-not-are_apart.ensures.value
     (rw c.if-not-branch.false at c.in_ok-have_roots.ensures.told))
     (subst (λ (l : List SchemaRow). AllPairs AreApart l) c.as_slice.ensures.value (c.if-not-are_apart.ensures.0 refl))

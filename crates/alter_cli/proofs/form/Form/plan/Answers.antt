@@ -1,7 +1,7 @@
 use Rattle.std.proofs.Common.{◌≡◌, ◌<◌, List, ℕ, None, Some, ap, arith, false, length, subst, sym, true, ◌∙◌}
 use Rattle.std.specs.List.{list_any}
 use Rattle.schema_rows.specs.declared.schema.SchemaRow.{SchemaRow}
-use Rattle.alter_cli.specs.declared.form.Table.{Table}
+use Rattle.alter_cli.specs.declared.table.Table.{Table}
 use Rattle.alter_cli.specs.FirstForm.{rows_of}
 use Rattle.alter_cli.specs.Plan.{IsPageWith, put_at}
 use Rattle.alter_cli.specs.Step.{added, after, has_column, same_name}

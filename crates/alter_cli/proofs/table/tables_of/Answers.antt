@@ -2,11 +2,11 @@ use Rattle.std.proofs.Common.{◌≡◌, ◌≤◌, ◌∷◌, [], ◌++◌, Lis
 use Rattle.std.specs.List.{AllByRecursion}
 use Rattle.std.specs.Vec.Iter.{into_iter_items}
 use Rattle.schema_rows.specs.declared.schema.SchemaRow.{SchemaRow}
-use Rattle.alter_cli.specs.declared.form.Table.{Table}
+use Rattle.alter_cli.specs.declared.table.Table.{Table}
 use Rattle.alter_cli.specs.FirstForm.{IsSpelled, rows_of}
 use Rattle.alter_cli.proofs.ListLemmas.{all_push}
 use Rattle.alter_cli.proofs.FormLemmas.{AreFirst, first_more, first_all, no_tables, rows_more, nothing_left}
-use Rattle.alter_cli.proofs.form.tables_of.Goals as goal
+use Rattle.alter_cli.proofs.table.tables_of.Goals as goal
 
 pub loop-row-init : goal.loop-row-init
 loop-row-init c =

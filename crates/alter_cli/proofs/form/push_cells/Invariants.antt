@@ -3,7 +3,7 @@ use Rattle.page_cells.specs.Write.{IsWholeCell}
 use Rattle.schema_rows.specs.Schema.{row_cell}
 use Rattle.alter_cli.specs.FirstForm.{rows_of}
 use Rattle.alter_cli.specs.Step.{are_local}
-use Rattle.alter_cli.proofs.plan.push_cells.Given as goal
+use Rattle.alter_cli.proofs.form.push_cells.Given as goal
 
 -- the cells of the tables so far were added, each a whole one, and their payloads are all local
 abbrev pub invariant-loop-table : goal.invariant-loop-table

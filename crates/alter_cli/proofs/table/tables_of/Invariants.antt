@@ -3,7 +3,7 @@ use Rattle.std.specs.List.{AllByRecursion}
 use Rattle.std.specs.Vec.Iter.{into_iter_items, into_iter_len}
 use Rattle.alter_cli.specs.FirstForm.{IsSpelled, rows_of}
 use Rattle.alter_cli.proofs.FormLemmas.{AreFirst}
-use Rattle.alter_cli.proofs.form.tables_of.Given as goal
+use Rattle.alter_cli.proofs.table.tables_of.Given as goal
 
 -- the tables so far are those of the rows so far, and the only ones
 abbrev pub invariant-loop-row : goal.invariant-loop-row

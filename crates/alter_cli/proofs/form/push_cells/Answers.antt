@@ -1,6 +1,6 @@
 use Rattle.alter_cli.proofs.Written.{not_local}
 use Rattle.std.proofs.Common.{arith}
-use Rattle.alter_cli.proofs.plan.push_cells.Goals as goal
+use Rattle.alter_cli.proofs.form.push_cells.Goals as goal
 
 pub returns-then-not-branch-clause-local : goal.returns-then-not-branch-clause-local
 returns-then-not-branch-clause-local c =

@@ -2,8 +2,8 @@ use Rattle.std.proofs.Common.{sym, subst}
 use Rattle.alter_cli.specs.FirstForm.{HasItsName}
 use Rattle.alter_cli.proofs.FormLemmas.{unread, its_text, is_table}
 use Rattle.alter_cli.proofs.RowsLemmas.{no_truth}
-use Rattle.alter_cli.proofs.form.table_of.Goals as goal
-use Rattle.alter_cli.proofs.form.table_of.Goals.{then-not-has_its_name-via-then-not-has_its_name, then-not-has_its_name-via-else-not-has_its_name+then-not-are_apart}
+use Rattle.alter_cli.proofs.table.table_of.Goals as goal
+use Rattle.alter_cli.proofs.table.table_of.Goals.{then-not-has_its_name-via-then-not-has_its_name, then-not-has_its_name-via-else-not-has_its_name+then-not-are_apart}
 
 pub returns-in_default-clause-only : goal.returns-in_default-clause-only
 returns-in_default-clause-only c = λ table same is.

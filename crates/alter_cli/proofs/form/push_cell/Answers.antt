@@ -5,7 +5,7 @@ use Rattle.schema_rows.specs.declared.schema.SchemaRow.{SchemaRow}
 use Rattle.schema_rows.specs.Schema.{row_cell, row_record}
 use Rattle.alter_cli.specs.Plan.{IsSmallRow}
 use Rattle.alter_cli.proofs.Written.{whole_row}
-use Rattle.alter_cli.proofs.plan.push_cell.Goals as goal
+use Rattle.alter_cli.proofs.form.push_cell.Goals as goal
 
 -- cells that are whole, and that of a row behind them
 pushed : (usable : ℕ) (row : SchemaRow) (cells new : List (List ℕ)) (cell : List ℕ) → IsSmallRow row → row.rowid < 2 ^ 64
