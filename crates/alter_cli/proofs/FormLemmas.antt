@@ -116,8 +116,3 @@ pub rows_more : (tables : List Table) (rows : List SchemaRow) (table : Table) (r
 rows_more [] rows table row same one = ap (λ (r : SchemaRow). r ∷ []) one ∙ ap (λ (l : List SchemaRow). l ++ row ∷ []) same
 rows_more (other ∷ tables) rows table row same one =
     ap (λ (l : List SchemaRow). other.row ∷ l) (rows_more tables (rows_of tables) table row refl one) ∙ ap (λ (l : List SchemaRow). l ++ row ∷ []) same
-
--- a list with no element
-pub nothing_left : {X : Type 0} (l : List X) → length l ≡ 0 → l ≡ []
-nothing_left [] none = refl
-nothing_left (x ∷ xs) none = absurd (omega arith)

@@ -15,7 +15,7 @@ use Rattle.alter_cli.specs.FirstPage.{HoldsRows}
 use Rattle.alter_cli.specs.Served.{HasEmptyRoot, HasFirstPage, IsFirstPage, OnlyFirstPage, OnlyReads}
 use Rattle.alter_cli.specs.Sizes.{HasSizes}
 use Rattle.alter_cli.proofs.FileLemmas.{Filled, IsOpening, Lengths, first_read, front_held, front_rows, opening_read}
-use Rattle.alter_cli.proofs.ListLemmas.{all_more}
+use Rattle.common_laws.proofs.Each.{all_more}
 
 -- page 1 was read exactly so
 abbrev pub OnlyRows : List ℕ → ℕ → Option (Vec SchemaRow Global) → Type 0

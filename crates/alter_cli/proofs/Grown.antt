@@ -1,7 +1,5 @@
 -- Runs, lines and fronts of a list that grow at their end.
-use Rattle.std.proofs.Common.{◌≡◌, ◌<◌, ℕ, zero, suc, ◌+◌, List, [], ◌∷◌, ◌++◌, length, take, Some, get_or, refl, sym, ◌∙◌, ap, subst, arith, append-nil, append_assoc}
-use Rattle.std.proofs.lemmas.List.{take_more}
-use Rattle.std.specs.List.{slice_get, AllByRecursion}
+use Rattle.std.proofs.Common.{◌≡◌, ℕ, suc, ◌+◌, List, [], ◌∷◌, ◌++◌, length, refl, sym, ◌∙◌, ap, subst, arith, append-nil, append_assoc}
 use Rattle.plain_sql.specs.declared.script.Command.{Command}
 use Rattle.alter_cli.specs.declared.verdict.Verdict.{Verdict}
 use Rattle.alter_cli.specs.Image.{Image}
@@ -46,13 +44,3 @@ pub verdict_lines-push : (number : ℕ) (verdicts : List Verdict) (verdict : Ver
 verdict_lines-push number verdicts verdict =
     verdict_lines-append number verdicts (verdict ∷ [])
     ∙ ap (λ (l : List ℕ). verdict_lines number verdicts ++ l) (verdict_lines-one (number + length verdicts) verdict)
-
--- the first so many and the next one
-pub take_next : {X : Type 0} → (xs : List X) (i : ℕ) (x : X) → i < length xs → x ≡ get_or xs i x → take (i + 1) xs ≡ take i xs ++ x ∷ []
-take_next xs i x within is = take_more xs i x within ∙ ap (λ y. take i xs ++ y ∷ []) (sym is)
-
--- what holds of all holds of one that is read
-pub all_read : {X : Type 0} (P : X → Type 0) (xs : List X) (i : ℕ) (x : X) → AllByRecursion P xs → slice_get xs i ≡ Some x → P x
-all_read P [] i x all is = absurd cc
-all_read P (y ∷ ys) zero x all is = let e : y ≡ x = cc in subst P e all.0
-all_read P (y ∷ ys) (suc i) x all is = all_read P ys i x all.1 is

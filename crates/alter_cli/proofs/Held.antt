@@ -1,5 +1,5 @@
 -- A page that was written with the cells of rows holds the rows.
-use Rattle.std.proofs.Common.{◌≡◌, ◌≤◌, ℕ, zero, suc, ◌+◌, ◌-◌, true, false, nat_le, nat_lt, Some, None, List, [], ◌∷◌, length, map, All, refl, sym, ◌∙◌, ap, subst, arith}
+use Rattle.std.proofs.Common.{◌≡◌, ◌≤◌, ℕ, suc, ◌+◌, ◌-◌, true, false, nat_le, nat_lt, Some, None, List, [], ◌∷◌, length, map, All, refl, sym, ◌∙◌, ap, subst, arith}
 use Rattle.std.proofs.lemmas.Bool.{and_parts, cond-false, le-ltb, leb-true}
 use Rattle.std.proofs.lemmas.Int.{to_z_pos}
 use Rattle.std.proofs.lemmas.List.{length-map}
@@ -14,6 +14,7 @@ use Rattle.page_cells.specs.Write.{Fits, IsWholeCell, rooms, written_page}
 use Rattle.page_cells.specs.declared.cell.Cell.{Cell}
 use Rattle.page_cells.proofs.LayoutLemmas.{local_payload-whole}
 use Rattle.page_cells.proofs.WriteLemmas.{content_start, found_page, has_cells-written_page, length-found_cells, reads_back}
+use Rattle.common_laws.proofs.Each.{at_index}
 use Rattle.schema_rows.specs.declared.schema.SchemaRow.{SchemaRow}
 use Rattle.schema_rows.specs.Record.{IsRecord}
 use Rattle.schema_rows.specs.Schema.{row_cell, row_record, row_values}
@@ -72,12 +73,6 @@ whole_cells : (usable : ℕ) (rows : List SchemaRow) → AllByRecursion (IsWrita
 whole_cells usable [] are = All-nil (IsWholeCell usable)
 whole_cells usable (row ∷ rows) are =
     All-cons (IsWholeCell usable) (row_cell row) (map row_cell rows) (cell_of usable row are.0) (whole_cells usable rows are.1)
-
--- what holds of all holds of the one at an index
-at_index : {X : Type 0} (P : X → Type 0) (xs : List X) (i : ℕ) (x : X) → AllByRecursion P xs → slice_get xs i ≡ Some x → P x
-at_index P [] i x all is = absurd cc
-at_index P (y ∷ xs) zero x all is = subst P (same_Some y x is) all.0
-at_index P (y ∷ xs) (suc i) x all is = at_index P xs i x all.1 is
 
 -- cells that hold the rows at the same indices
 hold_rows : (page : List ℕ) (cells : List Cell) (rows : List SchemaRow) → length cells ≡ length rows

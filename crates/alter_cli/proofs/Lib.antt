@@ -10,14 +10,12 @@ pub mod Grown
 pub mod HeaderLemmas
 pub mod Held
 pub mod ImageLemmas
-pub mod ListLemmas
 pub mod OpensLemmas
 pub mod PageLemmas
 pub mod PerformLemmas
 pub mod Reached
 pub mod ReadyLemmas
 pub mod Retold
-pub mod RowsLemmas
 pub mod RunLemmas
 pub mod StatusLemmas
 pub mod Stepped

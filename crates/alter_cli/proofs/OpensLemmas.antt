@@ -17,8 +17,8 @@ use Rattle.alter_cli.specs.FirstPage.{HoldsRows, IsEmptyTable}
 use Rattle.alter_cli.specs.FirstForm.{AreApart, AreFiles, HasRoot, IsFirstForm, IsSpelled, first_page, header_of, rows_of}
 use Rattle.alter_cli.specs.Outcome.{Opens}
 use Rattle.alter_cli.specs.Served.{HasEmptyRoot, HasFirstPage, IsFirstPage, IsReadyFirst, IsShortRow, IsReady, IsReadyTable, AreOfForm, OnlyFirstPage}
-use Rattle.alter_cli.proofs.ListLemmas.{all_weaker}
-use Rattle.alter_cli.proofs.RowsLemmas.{no_truth}
+use Rattle.common_laws.proofs.Each.{all_weaker}
+use Rattle.std.proofs.lemmas.Bool.{false≢true}
 use Rattle.alter_cli.proofs.FileLemmas.{all_within}
 use Rattle.alter_cli.proofs.ImageLemmas.{HasFirst, has_first, has_image, image_of, is_header_of, page_of_image, some_page}
 
@@ -126,7 +126,7 @@ unserved_roots (Some files) now first same front only roots = λ image opens.
     let empty = all_weaker (HasRoot image) (λ row. HasEmptyRoot files first.sizes row.root) (rows_of tables)
     (λ row root. empty_root files image first.sizes row opens.files top front.sized root) opens.form.stored.rooted in
     let rows = sym (rows_read files image first opens only) in
-    no_truth (is.1 (subst (λ (l : List SchemaRow). AllByRecursion (λ row. HasEmptyRoot files first.sizes row.root) l) rows empty))
+    false≢true (is.1 (subst (λ (l : List SchemaRow). AllByRecursion (λ row. HasEmptyRoot files first.sizes row.root) l) rows empty))
 
 -- the text of a row that was read is none that is served
 pub unserved_text : (told : Option Files) (first : First) (read : Option (Vec Table Global)) → read ≡ None → IfTold told (OnlyFirstPage (Some first))

@@ -10,7 +10,7 @@ use Rattle.page_cells.specs.Layout.{IsUsable}
 use Rattle.schema_rows.specs.declared.schema.SchemaRow.{SchemaRow}
 use Rattle.plain_sql.specs.Words.{IsRead}
 use Rattle.alter_cli.specs.FirstPage.{HoldsRow, HoldRows, IsOnPage, leaf_of}
-use Rattle.alter_cli.proofs.ListLemmas.{all_from_get}
+use Rattle.common_laws.proofs.Each.{all_from_get}
 
 -- the cells lie on the page
 pub within : (page : List ℕ) (usable : ℕ) (cells : List Cell) → IsUsable usable (length page) → HasCells page true usable (leaf_of cells)

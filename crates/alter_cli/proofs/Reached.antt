@@ -26,7 +26,9 @@ use Rattle.alter_cli.specs.Served.{IsFormOf, IsReady}
 use Rattle.alter_cli.specs.Outcome.{IsFirstTorn, is_done}
 use Rattle.alter_cli.specs.Ending.{IsRunStop, NotRun, OfForm, RanEach, RanTo, StoppedAt, TornAt, TornFirst, UnprintedAt, left_by}
 use Rattle.alter_cli.proofs.ImageLemmas.{has_first, some_page}
-use Rattle.alter_cli.proofs.Grown.{all_read, length-run, run-grows, take_next, verdict_lines-push}
+use Rattle.common_laws.proofs.Each.{at_index}
+use Rattle.common_laws.proofs.Lists.{take_one}
+use Rattle.alter_cli.proofs.Grown.{length-run, run-grows, verdict_lines-push}
 use Rattle.alter_cli.proofs.Stepped.{stepped, stepped_image}
 
 -- these commands were run on an image, and the form is the one behind them
@@ -50,7 +52,7 @@ is_next commands place number command plain same within is = record {
   within = within;
   is = is;
   at = ap (λ n. n + 1) same;
-  plain = all_read IsPlainCommand commands place command plain (slice_get_read commands (length commands) place command refl within is);
+  plain = at_index IsPlainCommand commands place command plain (slice_get_read commands (length commands) place command refl within is);
 }
 
 -- before the first command
@@ -82,7 +84,7 @@ of_form (Some files) (Some given) form P Q maps is = λ image are of. maps image
 -- the list up to a place and the command at it
 up_to : (commands : List Command) (place number : ℕ) (command : Command) → IsNext commands place number command
     → take (place + 1) commands ≡ take place commands ++ command ∷ []
-up_to commands place number command next = take_next commands place command next.within next.is
+up_to commands place number command next = sym (take_one commands place command next.within next.is)
 
 -- the number of the next command is that of the verdicts and one
 numbered : (image : Image) (commands : List Command) (place number : ℕ) (command : Command) (verdicts : List Verdict) (last : Image)

@@ -1,9 +1,8 @@
 -- A form stays ready.
-use Rattle.std.proofs.Common.{◌≡◌, ◌≤◌, ℕ, zero, suc, ◌+◌, ◌-◌, Bool, true, false, ◌&&◌, if◌then◌else◌, nat_le, List, [], ◌∷◌, ◌++◌, length, take, drop, Option, Some, None, get_or, codes, refl, sym, ◌∙◌, ap, subst, arith, length-append, length-drop}
+use Rattle.std.proofs.Common.{◌≡◌, ◌≤◌, ℕ, ◌+◌, ◌-◌, Bool, true, false, ◌&&◌, if◌then◌else◌, nat_le, List, [], ◌∷◌, ◌++◌, length, take, drop, Option, Some, None, codes, refl, sym, ◌∙◌, ap, subst, arith, length-append, length-drop}
 use Rattle.std.proofs.lemmas.Bool.Decides.{nat_tests}
 use Rattle.std.proofs.lemmas.List.{length-take-le}
 use Rattle.std.specs.List.{AllByRecursion, AllPairs, find}
-use Rattle.schema_rows.specs.declared.schema.SchemaRow.{SchemaRow}
 use Rattle.schema_rows.specs.Schema.{row_record}
 use Rattle.schema_rows.proofs.RowWritten.{length-row_record}
 use Rattle.plain_sql.specs.declared.script.Command.{Command}
@@ -17,6 +16,7 @@ use Rattle.alter_cli.specs.Sizes.{AreSound}
 use Rattle.alter_cli.specs.Step.{added, after, are_local, has_column, is_built, is_named, refusal_at, with_column}
 use Rattle.alter_cli.specs.Served.{IsReady, IsReadyTable}
 use Rattle.alter_cli.specs.Plan.{IsTaken, KeepsExtent, Plans}
+use Rattle.alter_cli.proofs.Retold.{apart_after}
 
 -- a table as a command may leave it
 abbrev left_table : Bool → Command → Table → Table
@@ -65,42 +65,6 @@ left_all usable command (table ∷ tables) small ready local =
     below : (n u : ℕ) → nat_le n (u - 35) ≡ true → u ≤ 65536 → n ≤ 65536
     below n u e h = grind (arith, nat_tests)
 
--- a row with the rowid, the name and the root of another
-record IsSameRow (a b : SchemaRow) : Type 0 where
-  rowid : a.rowid ≡ b.rowid
-  name : a.name ≡ b.name
-  root : a.root ≡ b.root
-
--- the row of a table keeps its rowid, name and root
-left_row : (named : Bool) (command : Command) (table : Table) → IsSameRow (left_table named command table).row table.row
-left_row false command table = record { rowid = refl; name = refl; root = refl }
-left_row true command table = record { rowid = refl; name = refl; root = refl }
-
--- so does each row
-row_at : (command : Command) (tables : List Table) (i : ℕ) (d : SchemaRow) → IsSameRow (get_or (rows_of (after command tables)) i d) (get_or (rows_of tables) i d)
-row_at command [] i d = record { rowid = refl; name = refl; root = refl }
-row_at command (table ∷ tables) zero d = left_row (is_named command table) command table
-row_at command (table ∷ tables) (suc i) d = row_at command tables i d
-
--- such rows are apart where the others are
-same_apart : (a b c d : SchemaRow) → IsSameRow a c → IsSameRow b d → AreApart c d → AreApart a b
-same_apart a b c d first second apart = record {
-  ascending = omega (arith, first.rowid, second.rowid, apart.ascending);
-  named = λ e. apart.named cc;
-  rooted = λ e. apart.rooted cc;
-}
-
--- no row is added or lost
-length-rows : (command : Command) (tables : List Table) → length (rows_of (after command tables)) ≡ length (rows_of tables)
-length-rows command [] = refl
-length-rows command (table ∷ tables) = ap suc (length-rows command tables)
-
--- the rows stay apart
-left_apart : (command : Command) (tables : List Table) → AllPairs AreApart (rows_of tables) → AllPairs AreApart (rows_of (after command tables))
-left_apart command tables apart = λ i j d before within.
-    same_apart (get_or (rows_of (after command tables)) i d) (get_or (rows_of (after command tables)) j d) (get_or (rows_of tables) i d) (get_or (rows_of tables) j d)
-    (row_at command tables i d) (row_at command tables j d) (apart i j d before (omega (arith, length-rows command tables)))
-
 -- no restriction is broken, so the rows have room
 built : (usable : ℕ) (tables : List Table) (command : Command) (found : Option Table) → refusal_at usable tables command found ≡ None
     → is_built usable (rows_of (after command tables)) ≡ true
@@ -127,5 +91,5 @@ stays_ready form command (plans.Changed change) new ready is keeps taken =
       sound = subst AreSound (sym taken.sizes) ready.sound;
       page = ap length taken.page ∙ keeps ∙ ready.page ∙ ap (λ s. s.page) (sym taken.sizes);
       tables = subst (AllByRecursion IsReadyTable) (sym tables) (left_all form.sizes.usable command form.tables.items small ready.tables local);
-      apart = subst (λ ts. AllPairs AreApart (rows_of ts)) (sym tables) (left_apart command form.tables.items ready.apart);
+      apart = subst (λ ts. AllPairs AreApart (rows_of ts)) (sym tables) (apart_after command form.tables.items ready.apart);
     }

@@ -16,7 +16,8 @@ use Rattle.alter_cli.specs.declared.table.Table.{Table}
 use Rattle.alter_cli.specs.FirstForm.{AreApart, IsSpelled, rows_of}
 use Rattle.alter_cli.specs.Step.{added, after, has_column, is_named, same_name}
 use Rattle.plain_sql.proofs.Added.{spells_added}
-use Rattle.alter_cli.proofs.Tables.{after-none, apart_head, apart_tail, none_behind}
+use Rattle.common_laws.proofs.Pairs.{pairs_head, pairs_tail}
+use Rattle.alter_cli.proofs.Tables.{after-none, none_behind}
 
 -- the row is the same but for its text
 pub record IsRetold (old new : SchemaRow) : Type 0 where
@@ -55,8 +56,8 @@ apart_after command (table ∷ tables) apart =
     (All-from_recursion (AreApart now.row) (rows_of (after command tables))
     (all_after (AreApart table.row) (AreApart now.row) command tables
     (λ old new retold was. apart_retold table.row old now.row new here retold was)
-    (apart_head AreApart table.row (rows_of tables) apart)))
-    (apart_after command tables (apart_tail AreApart table.row (rows_of tables) apart))
+    (pairs_head AreApart table.row (rows_of tables) apart)))
+    (apart_after command tables (pairs_tail AreApart table.row (rows_of tables) apart))
 
 -- two names are not alike
 abbrev DifferFolded : List ℕ → List ℕ → Type 0
@@ -86,14 +87,14 @@ pub spelled_after : (command : Command) (tables : List Table) (found : Table) �
 spelled_after command [] found apart at adds all = tt
 spelled_after command (table ∷ tables) found apart at adds all =
     by (is_named command table) refl
-    (λ later. spelled_after command tables found (apart_tail AreApart table.row (rows_of tables) apart) later adds all.1)
+    (λ later. spelled_after command tables found (pairs_tail AreApart table.row (rows_of tables) apart) later adds all.1)
   where
     by : (named : Bool) → is_named command table ≡ named
         → (find (is_named command) tables ≡ Some found → AllByRecursion IsSpelled (after command tables))
         → AllByRecursion IsSpelled (after command (table ∷ tables))
     by true named others =
         let it : table ≡ found = same_Some table found (sym (cond-true (is_named command table) (Some table) (find (is_named command) tables) named) ∙ at) in
-        let none = none_behind command table tables named (apart_head AreApart table.row (rows_of tables) apart) in
+        let none = none_behind command table tables named (pairs_head AreApart table.row (rows_of tables) apart) in
         let rest : after command tables ≡ tables = after-none command tables none in
         let new : IsSpelled (added command table) = subst (λ (t : Table). IsSpelled t → IsSpelled (added command t)) (sym it) adds all.0 in (
           subst IsSpelled (sym (cond-true (is_named command table) (added command table) table named)) new,

@@ -3,11 +3,11 @@ use Rattle.std.proofs.Common.{◌≡◌, ◌<◌, ℕ, suc, ◌+◌, Bool, true,
 use Rattle.std.proofs.Math.Seq.{get_or-append_seam}
 use Rattle.std.proofs.lemmas.Bool.{cond-false, cond-true, false_from_ne_true, le-leb, lt-leb}
 use Rattle.std.proofs.lemmas.List.{drop_more, length-map, length-take-le, map-append, take-append-drop, take_at}
-use Rattle.std.proofs.lemmas.List.Elements.{All-from_get_or, recursion_from_All}
 use Rattle.std.proofs.lemmas.List.Folds.{find-append, list_any_more}
 use Rattle.std.specs.Cmp.Lexicographic.{bytes_decides}
 use Rattle.std.specs.List.{AllByRecursion, find, list_any}
 use Rattle.std.specs.Option.{option_or}
+use Rattle.common_laws.proofs.Pairs.{pairs_head, pairs_tail}
 use Rattle.sql_token.specs.Names.{folded}
 use Rattle.plain_sql.specs.declared.script.Command.{Command}
 use Rattle.alter_cli.specs.declared.table.Table.{Table}
@@ -56,14 +56,6 @@ place_further command tables place table within is none other =
     list_any_more (is_named command) tables place table within
     ∙ ap₂ (λ (a b : Bool). a || b) none (sym (ap (is_named command) is) ∙ unnamed)
 
--- the first of a list is apart from the others
-pub apart_head : {X : Type 0} (R : X → X → Type 0) (x : X) (xs : List X) → AllPairs R (x ∷ xs) → AllByRecursion (R x) xs
-apart_head R x xs apart = recursion_from_All (R x) xs (All-from_get_or (R x) xs x (λ i within. apart 0 (suc i) x (omega arith) (omega arith)))
-
--- the others are apart
-pub apart_tail : {X : Type 0} (R : X → X → Type 0) (x : X) (xs : List X) → AllPairs R (x ∷ xs) → AllPairs R xs
-apart_tail R x xs apart = λ i j d lower below. apart (suc i) (suc j) d (omega arith) (omega arith)
-
 -- no row that is apart from that of a table has its name
 pub none_behind : (command : Command) (table : Table) (behind : List Table) → is_named command table ≡ true
     → AllByRecursion (AreApart table.row) (rows_of behind) → list_any (is_named command) behind ≡ false
@@ -78,9 +70,9 @@ none_behind command table (next ∷ behind) named apart =
 none_later : (command : Command) (front behind : List Table) (table : Table) → is_named command table ≡ true
     → AllPairs AreApart (rows_of (front ++ table ∷ behind)) → list_any (is_named command) behind ≡ false
 none_later command [] behind table named apart =
-    none_behind command table behind named (apart_head AreApart table.row (rows_of behind) apart)
+    none_behind command table behind named (pairs_head AreApart table.row (rows_of behind) apart)
 none_later command (first ∷ front) behind table named apart =
-    none_later command front behind table named (apart_tail AreApart first.row (rows_of (front ++ table ∷ behind)) apart)
+    none_later command front behind table named (pairs_tail AreApart first.row (rows_of (front ++ table ∷ behind)) apart)
 
 -- tables of which none has the command's name stay
 pub after-none : (command : Command) (tables : List Table) → list_any (is_named command) tables ≡ false → after command tables ≡ tables

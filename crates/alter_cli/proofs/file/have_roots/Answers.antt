@@ -1,5 +1,5 @@
 use Rattle.std.proofs.Common.{◌≤◌}
-use Rattle.alter_cli.proofs.ListLemmas.{all_more}
+use Rattle.common_laws.proofs.Each.{all_more}
 use Rattle.alter_cli.proofs.FrontLemmas.{reads_again, roots_more}
 use Rattle.alter_cli.proofs.file.have_roots.Goals as goal
 

@@ -1,4 +1,4 @@
-use Rattle.std.proofs.Common.{List, ℕ, ◌-◌, ◌∙◌, ap, refl, rules, subst, Some}
+use Rattle.std.proofs.Common.{List, ℕ, ◌-◌, ◌∙◌, refl, rules, subst}
 use Rattle.alter_cli.specs.declared.file.First.{First}
 use Rattle.alter_disk.specs.Changes.{IfTold}
 use Rattle.alter_cli.specs.FirstPage.{HoldsRows}

@@ -4,7 +4,7 @@ use Rattle.alter_disk.specs.Changes.{IfTold}
 use Rattle.schema_rows.specs.declared.schema.SchemaRow.{SchemaRow}
 use Rattle.alter_cli.specs.declared.form.Form.{Form}
 use Rattle.alter_cli.specs.FirstForm.{AreApart}
-use Rattle.alter_cli.proofs.RowsLemmas.{no_truth}
+use Rattle.std.proofs.lemmas.Bool.{false≢true}
 use Rattle.alter_cli.proofs.OpensLemmas.{HaveRoots, unserved_first, unserved_apart, unserved_roots, unserved_text, form_found, form_ready}
 use Rattle.alter_cli.proofs.file.read_form.Goals as goal
 
@@ -20,7 +20,7 @@ returns-then-not-are_apart-clause-unserved g c =
     elim c.then-not-are_apart.branch [
       | goal.then-not-are_apart-via-then-not-are_apart w ↦
           unserved_apart told first only
-          (λ apart. no_truth (w.if-not-are_apart.ensures.1 (subst (λ (l : List SchemaRow). AllPairs AreApart l) (sym c.as_slice.ensures.value) apart)))
+          (λ apart. false≢true (w.if-not-are_apart.ensures.1 (subst (λ (l : List SchemaRow). AllPairs AreApart l) (sym c.as_slice.ensures.value) apart)))
       | goal.then-not-are_apart-via-else-not-are_apart+in_ok-have_roots+then-not-branch w ↦
           unserved_roots told now first c.in_ok-sizes.ensures.reads.only.files (rw c.in-Some.is at c.in_ok-sizes.ensures.found) only
           (subst (λ (l : List SchemaRow). IfTold now (HaveRoots first.sizes l (IsTrue false))) w.as_slice-else-not-are_apart.ensures.value

@@ -4,7 +4,7 @@ use Rattle.page_cells.specs.declared.cell.Cell.{Cell}
 use Rattle.schema_rows.specs.declared.schema.SchemaRow.{SchemaRow}
 use Rattle.alter_cli.specs.FirstPage.{HoldRows}
 use Rattle.alter_cli.specs.Served.{IsShortRow}
-use Rattle.alter_cli.proofs.ListLemmas.{all_push}
+use Rattle.common_laws.proofs.Each.{all_push}
 use Rattle.alter_cli.proofs.PageLemmas.{AreFirst, held_next, first_more, no_rows, first_all}
 use Rattle.alter_cli.proofs.pages.rows_of.Goals as goal
 

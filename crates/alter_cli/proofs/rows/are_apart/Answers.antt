@@ -1,7 +1,8 @@
 use Rattle.std.proofs.Common.{length, take, drop, ◌-◌, refl, arith}
-use Rattle.plain_sql.proofs.WordsLists.{first_and_rest}
+use Rattle.common_laws.proofs.Lists.{first_and_rest}
+use Rattle.common_laws.proofs.Pairs.{pairs_behind, pairs_first, pairs_in_front}
 use Rattle.alter_cli.specs.FirstForm.{AreApart}
-use Rattle.alter_cli.proofs.RowsLemmas.{pairs_behind, pairs_first, pairs_in_front, no_truth}
+use Rattle.std.proofs.lemmas.Bool.{false≢true}
 use Rattle.alter_cli.proofs.rows.are_apart.Goals as goal
 
 pub returns-then-not-is_before : goal.returns-then-not-is_before
@@ -9,7 +10,7 @@ returns-then-not-is_before c =
     let rows = c.loop-rest.rest.now in
     let others = take (length rows - 1) (drop 1 rows) in
     let front = first_and_rest rows c.row-item.result c.in-len1-up.len_at_least c.row-item.is in (
-      λ yes. absurd (no_truth yes),
+      λ yes. absurd (false≢true yes),
       λ apart. c.if-not-is_before.ensures.1 (pairs_first AreApart rows others c.row-item.result front (c.loop-rest.invariant.1 apart)),
     )
 

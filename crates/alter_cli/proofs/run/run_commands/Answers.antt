@@ -4,7 +4,7 @@ use Rattle.alter_disk.specs.Faults.{Rose}
 use Rattle.plain_sql.specs.declared.script.Command.{Command}
 use Rattle.alter_cli.specs.Ending.{RanEach, StoppedAt}
 use Rattle.alter_cli.specs.Outcome.{is_done}
-use Rattle.alter_cli.proofs.Grown.{all_read}
+use Rattle.common_laws.proofs.Each.{at_index}
 use Rattle.alter_cli.proofs.Reached.{Reached, is_next, of_form, reached_all, reached_more, reached_none, reached_stop, run_cause}
 use Rattle.alter_cli.proofs.run.run_commands.Goals as goal
 use Rattle.alter_cli.proofs.run.run_commands.Goals.{then-all_done, else-all_done}
@@ -22,7 +22,7 @@ loop-command-init g c = record {
 
 pub run_command-requires-clause-small : goal.run_command-requires-clause-small
 run_command-requires-clause-small g c =
-    all_read (λ (k : Command). length k.column < 2 ^ 30) c.args.commands.now c.loop-command.command-index c.command-item.result c.requires.small
+    at_index (λ (k : Command). length k.column < 2 ^ 30) c.args.commands.now c.loop-command.command-index c.command-item.result c.requires.small
     (slice_get_read c.args.commands.now (length c.args.commands.now) c.loop-command.command-index c.command-item.result refl c.loop-command-test.true c.command-item.is)
 
 pub returns-in-Err-clause-stop : goal.returns-in-Err-clause-stop

@@ -1,4 +1,4 @@
-use Rattle.std.proofs.Common.{arith, ap, ◌++◌, List, ℕ, sym, ◌∙◌}
+use Rattle.std.proofs.Common.{ap, ◌++◌, List, ℕ, sym, ◌∙◌}
 use Rattle.alter_cli.proofs.Gave.{grows}
 use Rattle.alter_cli.proofs.sink.print.Goals as goal
 

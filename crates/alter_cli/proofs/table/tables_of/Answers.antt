@@ -4,8 +4,9 @@ use Rattle.std.specs.Vec.Iter.{into_iter_items}
 use Rattle.schema_rows.specs.declared.schema.SchemaRow.{SchemaRow}
 use Rattle.alter_cli.specs.declared.table.Table.{Table}
 use Rattle.alter_cli.specs.FirstForm.{IsSpelled, rows_of}
-use Rattle.alter_cli.proofs.ListLemmas.{all_push}
-use Rattle.alter_cli.proofs.FormLemmas.{AreFirst, first_more, first_all, no_tables, rows_more, nothing_left}
+use Rattle.common_laws.proofs.Each.{all_push}
+use Rattle.common_laws.proofs.Lists.{nothing_left}
+use Rattle.alter_cli.proofs.FormLemmas.{AreFirst, first_more, first_all, no_tables, rows_more}
 use Rattle.alter_cli.proofs.table.tables_of.Goals as goal
 
 pub loop-row-init : goal.loop-row-init
