@@ -6,13 +6,14 @@ use Rattle.alter_disk.specs.declared.disk.Disk.{Ghosts}
 use Rattle.alter_disk.specs.Files.{Files}
 use Rattle.alter_disk.specs.Changes.{IfTold}
 use Rattle.alter_disk.specs.Rest.{KeepsRest}
+use Rattle.alter_disk.specs.Uses.{OnlyReads}
 use Rattle.schema_rows.specs.declared.schema.SchemaRow.{SchemaRow}
 use Rattle.plain_sql.specs.Words.{IsRead}
 use Rattle.alter_cli.specs.declared.file.First.{First}
 use Rattle.alter_cli.specs.declared.header.Sizes.{Sizes}
 use Rattle.alter_cli.specs.Header.{IsHeader}
 use Rattle.alter_cli.specs.FirstPage.{HoldsRows}
-use Rattle.alter_cli.specs.Served.{HasEmptyRoot, HasFirstPage, IsFirstPage, OnlyFirstPage, OnlyReads}
+use Rattle.alter_cli.specs.Served.{HasEmptyRoot, HasFirstPage, IsFirstPage, OnlyFirstPage}
 use Rattle.alter_cli.specs.Sizes.{HasSizes}
 use Rattle.alter_cli.proofs.FileLemmas.{Filled, IsOpening, Lengths, first_read, front_held, front_rows, opening_read}
 use Rattle.common_laws.proofs.Each.{all_more}

@@ -1,9 +1,9 @@
 -- A file that is served, as far as it is read off its disk.
-use Rattle.std.specs.Prelude.{true, ◌≡◌, ◌≤◌, ◌<◌, ℕ, ◌+◌, ◌^◌, List, [], length, take, Option, Result, IsErrOf, IsSomeAnd, AllPairs}
+use Rattle.std.specs.Prelude.{◌≡◌, ◌≤◌, ◌<◌, ℕ, ◌+◌, ◌^◌, List, [], length, take, Option, Result, IsErrOf, IsSomeAnd, AllPairs}
 use Rattle.std.specs.List.{AllByRecursion}
 use Rattle.alter_disk.specs.declared.disk.Disk.{Ghosts}
-use Rattle.alter_disk.specs.Faults.{Rose}
 use Rattle.alter_disk.specs.Files.{Files}
+use Rattle.alter_disk.specs.Uses.{OnlyReads, ReadFailed}
 use Rattle.schema_rows.specs.declared.schema.SchemaRow.{SchemaRow}
 use Rattle.alter_cli.specs.declared.header.Sizes.{Sizes}
 use Rattle.alter_cli.specs.declared.table.Table.{Table}
@@ -80,23 +80,7 @@ pub record IsReady (form : Form) : Type 0 where
   pub tables : AllByRecursion IsReadyTable form.tables.items
   pub apart : AllPairs AreApart (rows_of form.tables.items)
 
--- calls that only read changed no byte and did not fail to write
-pub record OnlyReads {D : Type 0} (disk : Ghosts D) (old new : D) : Type 0 where
-  pub files : disk.files new ≡ disk.files old
-  pub label : disk.label new ≡ disk.label old
-  pub called : disk.called new ≡ disk.called old
-  pub later : disk.read_faults old ≤ disk.read_faults new
-  pub writes_stay : disk.write_faults new ≡ disk.write_faults old
-
--- the same of a call of `open` and of those behind it
-pub record OnlyOpens {D : Type 0} (disk : Ghosts D) (old new : D) : Type 0 where
-  pub files : disk.files new ≡ disk.files old
-  pub label : disk.label new ≡ disk.label old
-  pub called : disk.called new ≡ true
-  pub later : disk.read_faults old ≤ disk.read_faults new
-  pub writes_stay : disk.write_faults new ≡ disk.write_faults old
-
 -- the disk was only read, and where it failed, its count of faults at reading rose
 pub record HasRead {D T : Type 0} (disk : Ghosts D) (old new : D) (result : Result T ReadFault) : Type 0 where
   pub only : OnlyReads disk old new
-  pub failed : IsErrOf result Failed → Rose (disk.read_faults old) (disk.read_faults new)
+  pub failed : IsErrOf result Failed → ReadFailed disk old new

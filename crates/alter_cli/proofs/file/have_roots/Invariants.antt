@@ -1,7 +1,8 @@
 use Rattle.std.proofs.Common.{◌≤◌, ◌*◌, length, take}
 use Rattle.std.specs.List.{AllByRecursion}
 use Rattle.alter_disk.specs.Changes.{IfTold}
-use Rattle.alter_cli.specs.Served.{HasEmptyRoot, OnlyReads}
+use Rattle.alter_disk.specs.Uses.{OnlyReads}
+use Rattle.alter_cli.specs.Served.{HasEmptyRoot}
 use Rattle.alter_cli.proofs.file.have_roots.Given as goal
 
 -- the rows so far have roots that are pages behind the first, and empty tables, and the disk was only read
