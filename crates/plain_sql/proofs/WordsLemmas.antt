@@ -1,27 +1,14 @@
 -- The keyword that a word spells.
-use Rattle.std.proofs.Common.{◌≡◌, ◌≢◌, ◌↔◌, ℕ, true, List, Option, Some, None, Ok, Vec, rules, sym, subst, ap, ◌∙◌}
+use Rattle.std.proofs.Common.{◌≡◌, ◌≢◌, ℕ, true, false, List, Option, Some, None, Ok, Vec, sym, subst, ◌∙◌}
 use Rattle.std.specs.Prelude.{IfSome, IfNone, is_some}
 use Rattle.std.proofs.lemmas.Bool.{false≢true}
-use Rattle.std.specs.Option.{option_eq}
 use Rattle.std.specs.declared.alloc.AllocError.{AllocError}
 use Rattle.std.specs.declared.alloc.Global.{Global}
 use Rattle.sql_token.specs.declared.token.Token.{Token}
 use Rattle.sql_token.specs.Token.{AreTokens}
 use Rattle.sql_token.specs.declared.keyword.Keyword.{Keyword}
-use Rattle.sql_token.specs.contracts.keyword.Keyword.{the_type}
 use Rattle.sql_token.specs.Keyword.{spelling}
 use Rattle.plain_sql.specs.Words.{IsRead}
-use Rattle.sql_token.proofs.Keywords.{spelling_apart}
-use denote.Enum.Bare.{sameb, same_true, true_same}
-
--- the keyword that was found is the one that the folded word spells
-pub found_keyword : (found : Option Keyword) (word : List ℕ) (keyword : Keyword) → IfSome found (λ k. word ≡ spelling k) → IfNone found ((k : Keyword) → word ≢ spelling k)
-    → (option_eq (sameb the_type) found (Some keyword) ≡ true) ↔ (word ≡ spelling keyword)
-found_keyword None word keyword some none = (λ e. absurd (false≢true e), λ same. absurd (none keyword same))
-found_keyword (Some k) word keyword some none = (
-  λ e. some ∙ ap spelling (same_true the_type (search rules) k keyword e),
-  λ same. true_same the_type k keyword (spelling_apart k keyword (sym some ∙ same)),
-)
 
 -- what is said of a value that is there
 pub some_so : {A : Type 0} (P : A → Type 0) (o : Option A) → is_some o ≡ true → IfSome o P → (a : A) × P a

@@ -6,9 +6,9 @@ ghost use Rattle.plain_sql.specs.declared.script.Command.{Command};
 ghost use Rattle.plain_sql.specs.Words.{IsPlainName};
 ghost use Rattle.plain_sql.specs.Script.{IsCommandList, IsScript, IsPlainCommand, IsWithin, IsListReadAs, SpellsCommands, SpellsCommand, BeginsCommand, IsAdd, IsColumnWord, IsBehindColumnWord, IsBehindEnds, IsEnded};
 
-use crate::words::{is_fixed, is_sign, plain_name, tokens_of};
+use crate::words::{plain_name, tokens_of};
 use alter_bytes::Bytes;
-use sql_token::{Keyword, Token};
+use sql_token::{Keyword, Token, is_fixed, is_sign};
 use std::alloc::{AllocError, Global};
 
 /// ALTER TABLE table ADD column.
@@ -131,7 +131,7 @@ fn behind_ends<'a>(text: &[u8], tokens: &'a [Token]) -> &'a [Token]
 {
     let mut rest = tokens;
     while let [token, others @ ..] = rest {
-        if !is_sign(text, b';', token) {
+        if !is_sign(text, b";", token) {
             break;
         }
         rest = others;
@@ -144,7 +144,7 @@ fn is_ended(text: &[u8], tokens: &[Token]) -> bool
     ensures { IsTrue result ↔ IsEnded text.now tokens.now }
 {
     match tokens {
-        [token, ..] => is_sign(text, b';', token),
+        [token, ..] => is_sign(text, b";", token),
         [] => true,
     }
 }

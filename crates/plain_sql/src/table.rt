@@ -5,9 +5,9 @@ ghost use Rattle.plain_sql.specs.Words.{IsRead};
 ghost use Rattle.plain_sql.specs.TableText.{SpellsTable, IsTableReadAs, IsFrame, AreColumns, IsColumn, BeginsColumn, IsBehindWords, last_end};
 
 use crate::names::Names;
-use crate::words::{is_fixed, is_sign, plain_name, tokens_of};
+use crate::words::{plain_name, tokens_of};
 use alter_bytes::Bytes;
-use sql_token::{Keyword, Token};
+use sql_token::{Keyword, Token, is_fixed, is_sign};
 use std::alloc::{AllocError, Global};
 
 /// A table's text, as far as it is served.
@@ -54,8 +54,8 @@ fn is_frame(text: &[u8], create: &Token, table: &Token, left: &Token, right: &To
 {
     is_fixed(text, Keyword::Create, create)
         && is_fixed(text, Keyword::Table, table)
-        && is_sign(text, b'(', left)
-        && is_sign(text, b')', right)
+        && is_sign(text, b"(", left)
+        && is_sign(text, b")", right)
 }
 
 /// The place behind the last token, or 0 where there is none.
@@ -83,7 +83,7 @@ fn read_columns(alloc: Global, text: &[u8], tokens: &[Token]) -> Result<Option<N
         let [comma, next @ ..] = others else {
             return Ok(Some(names));
         };
-        if !is_sign(text, b',', comma) {
+        if !is_sign(text, b",", comma) {
             return Ok(None);
         }
         rest = next;

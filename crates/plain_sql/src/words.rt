@@ -1,37 +1,11 @@
 //! What one token of a text or a script is.
-ghost use Rattle.std.specs.Prelude.{◌≡◌, ◌↔◌, List, ℕ, [], ◌∷◌, IsTrue, IfOk, IfSome, IfNone};
+ghost use Rattle.std.specs.Prelude.{◌≡◌, List, ℕ, IfOk, IfSome, IfNone};
 ghost use Rattle.sql_token.specs.declared.token.Token.{Token};
-ghost use Rattle.sql_token.specs.Token.{span, AreTokens};
-ghost use Rattle.sql_token.specs.Fixed.{IsFixed, IsSign};
+ghost use Rattle.sql_token.specs.Token.{AreTokens};
 ghost use Rattle.plain_sql.specs.Words.{IsPlainName, IsRead};
 
-use sql_token::{Keyword, Token, TokenError, TokenKind, keyword_of, tokens};
+use sql_token::{Token, TokenError, TokenKind, bytes_of, keyword_of, tokens};
 use std::alloc::{AllocError, Global};
-
-/// The token's bytes, as far as the text has them.
-fn bytes_of<'a>(text: &'a [u8], token: &Token) -> &'a [u8]
-    ensures { result.now ≡ span text.now token.now }
-{
-    let Some(from) = text.get(token.start..) else {
-        return &[];
-    };
-    let length = token.end.saturating_sub(token.start).min(from.len());
-    &from[..length]
-}
-
-/// Whether the token is this word, in letters of either case.
-pub fn is_fixed(text: &[u8], word: Keyword, token: &Token) -> bool
-    ensures { IsTrue result ↔ IsFixed text.now word token.now }
-{
-    token.kind == TokenKind::Word && keyword_of(bytes_of(text, token)) == Some(word)
-}
-
-/// Whether the token is this sign of one byte.
-pub fn is_sign(text: &[u8], sign: u8, token: &Token) -> bool
-    ensures { IsTrue result ↔ IsSign text.now (sign ∷ []) token.now }
-{
-    token.kind == TokenKind::Op && bytes_of(text, token) == [sign].as_slice()
-}
 
 /// The name that the token spells, where it is a word and none of SQL's.
 pub fn plain_name<'a>(text: &'a [u8], token: &Token) -> Option<&'a [u8]>

@@ -9,40 +9,34 @@ use Rattle.sql_token.specs.declared.keyword.Keyword.TheVariants.{Abort, Action, 
 use Rattle.sql_token.specs.declared.keyword.TheConstants.{KEYWORDS}
 use Rattle.sql_token.specs.Keyword.{spelling}
 use Rattle.sql_token.specs.Names.{folded}
-use Rattle.sql_token.specs.Scan.{entry_of}
+use Rattle.sql_token.specs.Scan.{first_spelled}
 
--- an entry with the word's spelling is the one
-pub entry_of-here : (a word : List ℕ) (k : Keyword) (es : List (List ℕ × Keyword)) → a ≡ word → entry_of ((a, k) ∷ es) word ≡ Some k
-entry_of-here a word k es same = cond-true (pointwise nat_eq a word) (Some k) (entry_of es word) ((bytes_decides a word).1 same)
+-- the keyword is spelled as the word
+abbrev spells : List ℕ → Keyword → Bool
+spells word k = pointwise nat_eq (folded (spelling k)) word
 
--- an entry with another spelling is passed over
-pub entry_of-further : (a word : List ℕ) (k : Keyword) (es : List (List ℕ × Keyword)) → (a ≡ word → ⊥) → entry_of ((a, k) ∷ es) word ≡ entry_of es word
-entry_of-further a word k es other = cond-false (pointwise nat_eq a word) (Some k) (entry_of es word) (false_from_ne_true (pointwise nat_eq a word) (λ e. other ((bytes_decides a word).0 e)))
+-- a keyword with the word's spelling is the one
+pub first_spelled-here : (word : List ℕ) (k : Keyword) (ks : List Keyword) → folded (spelling k) ≡ word → first_spelled word (k ∷ ks) ≡ Some k
+first_spelled-here word k ks same = cond-true (spells word k) (Some k) (first_spelled word ks) ((bytes_decides (folded (spelling k)) word).1 same)
 
--- the table, with its words folded
-abbrev pub table : List (List ℕ × Keyword)
-table = map (λ entry. (folded entry.0.now, entry.1)) KEYWORDS
+-- a keyword with another spelling is passed over
+pub first_spelled-further : (word : List ℕ) (k : Keyword) (ks : List Keyword) → (folded (spelling k) ≡ word → ⊥) → first_spelled word (k ∷ ks) ≡ first_spelled word ks
+first_spelled-further word k ks other =
+    cond-false (spells word k) (Some k) (first_spelled word ks) (false_from_ne_true (spells word k) (λ e. other ((bytes_decides (folded (spelling k)) word).0 e)))
 
--- the entry has its keyword's spelling
-abbrev is_spelled : List ℕ × Keyword → Bool
-is_spelled entry = pointwise nat_eq entry.0 (spelling entry.1)
-
-spelled_in : (es : List (List ℕ × Keyword)) (word : List ℕ) (k : Keyword) → list_all is_spelled es ≡ true → entry_of es word ≡ Some k → word ≡ spelling k
-spelled_in [] word k all found = absurd (cc)
-spelled_in (e ∷ es) word k all found =
-    let parts = and_parts (is_spelled e) (list_all is_spelled es) all in
+-- what is found has the word's spelling
+found_spells : (word : List ℕ) (k : Keyword) (ks : List Keyword) → first_spelled word ks ≡ Some k → folded (spelling k) ≡ word
+found_spells word k [] found = absurd (cc)
+found_spells word k (l ∷ ks) found =
     ⊎_elim
-    (λ same. let is : e.1 ≡ k = cc (cond-true (pointwise nat_eq e.0 word) (Some e.1) (entry_of es word) same) in
-    sym ((bytes_decides e.0 word).0 same) ∙ (bytes_decides e.0 (spelling e.1)).0 parts.0 ∙ ap spelling is)
-    (λ other. spelled_in es word k parts.1 (sym (cond-false (pointwise nat_eq e.0 word) (Some e.1) (entry_of es word) other) ∙ found))
-    (cases_Bool (pointwise nat_eq e.0 word))
-
--- what the table gives has the word's spelling
-pub table_spelled : (word : List ℕ) (k : Keyword) → entry_of table word ≡ Some k → word ≡ spelling k
-table_spelled word k found = spelled_in table word k refl found
+    (λ here.
+    let is : l ≡ k = cc (cond-true (spells word l) (Some l) (first_spelled word ks) here) in
+    ap (λ m. folded (spelling m)) (sym is) ∙ (bytes_decides (folded (spelling l)) word).0 here)
+    (λ other. found_spells word k ks (sym (cond-false (spells word l) (Some l) (first_spelled word ks) other) ∙ found))
+    (cases_Bool (spells word l))
 
 -- the table has each keyword
-pub table_whole : (k : Keyword) → entry_of table (spelling k) ≡ Some k
+pub table_whole : (k : Keyword) → first_spelled (spelling k) KEYWORDS ≡ Some k
 table_whole Abort = refl
 table_whole Action = refl
 table_whole Add = refl
@@ -192,17 +186,20 @@ table_whole Window = refl
 table_whole With = refl
 table_whole Without = refl
 
+-- a spelling has no capitals
+pub folded-spelling : (k : Keyword) → folded (spelling k) ≡ spelling k
+folded-spelling k = found_spells (spelling k) k KEYWORDS (table_whole k)
+
 -- two keywords have two spellings
 pub spelling_apart : (k l : Keyword) → spelling k ≡ spelling l → k ≡ l
 spelling_apart k l same =
-    let joined : Some k ≡ Some l = sym (table_whole k) ∙ ap (entry_of table) same ∙ table_whole l in
+    let joined : Some k ≡ Some l = sym (table_whole k) ∙ ap (λ w. first_spelled w KEYWORDS) same ∙ table_whole l in
     cc
 
 -- what a look-up in the table says, either way
-pub found_in_table : (found : Option Keyword) (word : List ℕ) → found ≡ entry_of table word → IfSome found (λ k. word ≡ spelling k)
+pub found_in_table : (found : Option Keyword) (word : List ℕ) → found ≡ first_spelled word KEYWORDS → IfSome found (λ k. word ≡ spelling k)
 found_in_table None word is = tt
-found_in_table (Some k) word is = table_spelled word k (sym is)
+found_in_table (Some k) word is = sym (found_spells word k KEYWORDS (sym is)) ∙ folded-spelling k
 
-pub none_in_table : (found : Option Keyword) (word : List ℕ) → found ≡ entry_of table word → IfNone found ((k : Keyword) → word ≡ spelling k → ⊥)
-none_in_table None word is = λ k same. let joined : Some k ≡ None = sym (table_whole k) ∙ ap (entry_of table) (sym same) ∙ sym is in cc
-none_in_table (Some k) word is = tt
+pub only_in_table : (found : Option Keyword) (word : List ℕ) (k : Keyword) → found ≡ first_spelled word KEYWORDS → word ≡ spelling k → found ≡ Some k
+only_in_table found word k is same = is ∙ ap (λ w. first_spelled w KEYWORDS) same ∙ table_whole k

@@ -62,12 +62,12 @@ some_name Float bytes named form = absurd named
 some_name Op bytes named form = absurd named
 
 -- what is read as the name that each spelling gives
-pub record IsName (kind : TokenKind) (bytes : List ℕ) (read : Result (Vec ℕ Global) AllocError) : Type 0 where
+pub record IsReadName (kind : TokenKind) (bytes : List ℕ) (read : Result (Vec ℕ Global) AllocError) : Type 0 where
   pub found : IfOk read (λ name. Spells kind bytes name.items)
   pub only : (name : List ℕ) → Spells kind bytes name → IfOk read (λ v. v.items ≡ name)
 
 pub name_read : (kind : TokenKind) (bytes gives : List ℕ) (read : Result (Vec ℕ Global) AllocError) → IsNameKind kind → IsForm kind bytes
-    → ((name : List ℕ) → Spells kind bytes name → gives ≡ name) → IfOk read (λ v. v.items ≡ gives) → IsName kind bytes read
+    → ((name : List ℕ) → Spells kind bytes name → gives ≡ name) → IfOk read (λ v. v.items ≡ gives) → IsReadName kind bytes read
 name_read kind bytes gives (Ok v) named form each is =
     let some = some_name kind bytes named form in
     record { found = subst (Spells kind bytes) (sym (is ∙ each some.0 some.1)) some.1; only = λ name spells. is ∙ each name spells }

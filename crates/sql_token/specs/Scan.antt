@@ -5,17 +5,26 @@ use Rattle.std.specs.Cmp.Lexicographic.{pointwise}
 use Rattle.std.specs.List.{prefix_len}
 use Rattle.std.specs.Option.{option_map}
 use Rattle.sql_token.specs.declared.keyword.Keyword.{Keyword}
+use Rattle.sql_token.specs.declared.keyword.Role.{Role}
+use Rattle.sql_token.specs.declared.keyword.Role.TheVariants.{Name, JoinWord, Reserved}
 use Rattle.sql_token.specs.declared.class.Class.{Class}
 use Rattle.sql_token.specs.declared.class.Class.TheVariants.{Letter, Digit, Point, Apostrophe, Sign, Bracket, Other}
 use Rattle.sql_token.specs.declared.token.TokenKind.{TokenKind}
 use Rattle.sql_token.specs.declared.token.TokenKind.TheVariants as kind
 use Rattle.sql_token.specs.Byte.{starts_word, in_word, is_x, is_e, is_plus_or_minus, begins}
 use Rattle.sql_token.specs.Form.{unsigned, is_operator}
+use Rattle.sql_token.specs.Keyword.{spelling, is_reserved, is_join_word}
+use Rattle.sql_token.specs.Names.{folded}
 
--- the keyword of the first entry with this spelling
-abbrev pub entry_of : List (List ℕ × Keyword) → List ℕ → Option Keyword
-entry_of [] word = None
-entry_of (entry ∷ entries) word = if pointwise nat_eq entry.0 word then Some entry.1 else entry_of entries word
+-- the first of the keywords with this spelling
+abbrev pub first_spelled : List ℕ → List Keyword → Option Keyword
+first_spelled word [] = None
+first_spelled word (keyword ∷ keywords) =
+    if pointwise nat_eq (folded (spelling keyword)) word then Some keyword else first_spelled word keywords
+
+-- what the keyword may be besides a fixed word
+abbrev pub role_of : Keyword → Role
+role_of keyword = if is_reserved keyword then Reserved else (if is_join_word keyword then JoinWord else Name)
 
 -- what may begin with the byte
 abbrev pub class_of : ℕ → Class

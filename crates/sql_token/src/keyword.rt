@@ -1,9 +1,9 @@
 //! The keywords of SQL and the words of SQLite that the grammar knows.
 
-ghost use Rattle.std.specs.Prelude.{◌≡◌, ◌≢◌, map, IfSome, IfNone};
+ghost use Rattle.std.specs.Prelude.{◌≡◌, IfSome};
 ghost use Rattle.sql_token.specs.Keyword.{spelling, is_reserved, is_join_word};
 ghost use Rattle.sql_token.specs.Names.{folded};
-ghost use Rattle.sql_token.specs.Scan.{entry_of};
+ghost use Rattle.sql_token.specs.Scan.{first_spelled, role_of};
 ghost use Rattle.sql_token.specs.declared.keyword.Keyword.{Keyword};
 
 use crate::name::same_name;
@@ -161,259 +161,365 @@ pub enum Keyword {
     Without,
 }
 
-/// Each keyword's spelling in lower-case letters.
-const KEYWORDS: [(&[u8], Keyword); 148] = [
-    (b"abort", Keyword::Abort),
-    (b"action", Keyword::Action),
-    (b"add", Keyword::Add),
-    (b"after", Keyword::After),
-    (b"all", Keyword::All),
-    (b"alter", Keyword::Alter),
-    (b"always", Keyword::Always),
-    (b"analyze", Keyword::Analyze),
-    (b"and", Keyword::And),
-    (b"as", Keyword::As),
-    (b"asc", Keyword::Asc),
-    (b"attach", Keyword::Attach),
-    (b"autoincrement", Keyword::AutoIncrement),
-    (b"before", Keyword::Before),
-    (b"begin", Keyword::Begin),
-    (b"between", Keyword::Between),
-    (b"by", Keyword::By),
-    (b"cascade", Keyword::Cascade),
-    (b"case", Keyword::Case),
-    (b"cast", Keyword::Cast),
-    (b"check", Keyword::Check),
-    (b"collate", Keyword::Collate),
-    (b"column", Keyword::Column),
-    (b"commit", Keyword::Commit),
-    (b"conflict", Keyword::Conflict),
-    (b"constraint", Keyword::Constraint),
-    (b"create", Keyword::Create),
-    (b"cross", Keyword::Cross),
-    (b"current", Keyword::Current),
-    (b"current_date", Keyword::CurrentDate),
-    (b"current_time", Keyword::CurrentTime),
-    (b"current_timestamp", Keyword::CurrentTimestamp),
-    (b"database", Keyword::Database),
-    (b"default", Keyword::Default),
-    (b"deferrable", Keyword::Deferrable),
-    (b"deferred", Keyword::Deferred),
-    (b"delete", Keyword::Delete),
-    (b"desc", Keyword::Desc),
-    (b"detach", Keyword::Detach),
-    (b"distinct", Keyword::Distinct),
-    (b"do", Keyword::Do),
-    (b"drop", Keyword::Drop),
-    (b"each", Keyword::Each),
-    (b"else", Keyword::Else),
-    (b"end", Keyword::End),
-    (b"escape", Keyword::Escape),
-    (b"except", Keyword::Except),
-    (b"exclude", Keyword::Exclude),
-    (b"exclusive", Keyword::Exclusive),
-    (b"exists", Keyword::Exists),
-    (b"explain", Keyword::Explain),
-    (b"fail", Keyword::Fail),
-    (b"filter", Keyword::Filter),
-    (b"first", Keyword::First),
-    (b"following", Keyword::Following),
-    (b"for", Keyword::For),
-    (b"foreign", Keyword::Foreign),
-    (b"from", Keyword::From),
-    (b"full", Keyword::Full),
-    (b"generated", Keyword::Generated),
-    (b"glob", Keyword::Glob),
-    (b"group", Keyword::Group),
-    (b"groups", Keyword::Groups),
-    (b"having", Keyword::Having),
-    (b"if", Keyword::If),
-    (b"ignore", Keyword::Ignore),
-    (b"immediate", Keyword::Immediate),
-    (b"in", Keyword::In),
-    (b"index", Keyword::Index),
-    (b"indexed", Keyword::Indexed),
-    (b"initially", Keyword::Initially),
-    (b"inner", Keyword::Inner),
-    (b"insert", Keyword::Insert),
-    (b"instead", Keyword::Instead),
-    (b"intersect", Keyword::Intersect),
-    (b"into", Keyword::Into),
-    (b"is", Keyword::Is),
-    (b"isnull", Keyword::IsNull),
-    (b"join", Keyword::Join),
-    (b"key", Keyword::Key),
-    (b"last", Keyword::Last),
-    (b"left", Keyword::Left),
-    (b"like", Keyword::Like),
-    (b"limit", Keyword::Limit),
-    (b"match", Keyword::Match),
-    (b"materialized", Keyword::Materialized),
-    (b"natural", Keyword::Natural),
-    (b"no", Keyword::No),
-    (b"not", Keyword::Not),
-    (b"nothing", Keyword::Nothing),
-    (b"notnull", Keyword::NotNull),
-    (b"null", Keyword::Null),
-    (b"nulls", Keyword::Nulls),
-    (b"of", Keyword::Of),
-    (b"offset", Keyword::Offset),
-    (b"on", Keyword::On),
-    (b"or", Keyword::Or),
-    (b"order", Keyword::Order),
-    (b"others", Keyword::Others),
-    (b"outer", Keyword::Outer),
-    (b"over", Keyword::Over),
-    (b"partition", Keyword::Partition),
-    (b"plan", Keyword::Plan),
-    (b"pragma", Keyword::Pragma),
-    (b"preceding", Keyword::Preceding),
-    (b"primary", Keyword::Primary),
-    (b"query", Keyword::Query),
-    (b"raise", Keyword::Raise),
-    (b"range", Keyword::Range),
-    (b"rebuild", Keyword::Rebuild),
-    (b"recursive", Keyword::Recursive),
-    (b"references", Keyword::References),
-    (b"regexp", Keyword::Regexp),
-    (b"reindex", Keyword::Reindex),
-    (b"release", Keyword::Release),
-    (b"rename", Keyword::Rename),
-    (b"replace", Keyword::Replace),
-    (b"restrict", Keyword::Restrict),
-    (b"returning", Keyword::Returning),
-    (b"right", Keyword::Right),
-    (b"rollback", Keyword::Rollback),
-    (b"row", Keyword::Row),
-    (b"rows", Keyword::Rows),
-    (b"savepoint", Keyword::Savepoint),
-    (b"select", Keyword::Select),
-    (b"set", Keyword::Set),
-    (b"table", Keyword::Table),
-    (b"temp", Keyword::Temp),
-    (b"temporary", Keyword::Temporary),
-    (b"then", Keyword::Then),
-    (b"ties", Keyword::Ties),
-    (b"to", Keyword::To),
-    (b"transaction", Keyword::Transaction),
-    (b"trigger", Keyword::Trigger),
-    (b"unbounded", Keyword::Unbounded),
-    (b"union", Keyword::Union),
-    (b"unique", Keyword::Unique),
-    (b"update", Keyword::Update),
-    (b"using", Keyword::Using),
-    (b"vacuum", Keyword::Vacuum),
-    (b"values", Keyword::Values),
-    (b"view", Keyword::View),
-    (b"virtual", Keyword::Virtual),
-    (b"when", Keyword::When),
-    (b"where", Keyword::Where),
-    (b"window", Keyword::Window),
-    (b"with", Keyword::With),
-    (b"without", Keyword::Without),
+/// What a keyword may be besides a fixed word.
+#[derive(Clone, Copy)]
+pub enum Role {
+    /// A name.
+    Name,
+    /// A name, but no alias, since it may begin a join.
+    JoinWord,
+    /// Nothing.
+    Reserved,
+}
+
+/// The keywords.
+const KEYWORDS: [Keyword; 148] = [
+    Keyword::Abort,
+    Keyword::Action,
+    Keyword::Add,
+    Keyword::After,
+    Keyword::All,
+    Keyword::Alter,
+    Keyword::Always,
+    Keyword::Analyze,
+    Keyword::And,
+    Keyword::As,
+    Keyword::Asc,
+    Keyword::Attach,
+    Keyword::AutoIncrement,
+    Keyword::Before,
+    Keyword::Begin,
+    Keyword::Between,
+    Keyword::By,
+    Keyword::Cascade,
+    Keyword::Case,
+    Keyword::Cast,
+    Keyword::Check,
+    Keyword::Collate,
+    Keyword::Column,
+    Keyword::Commit,
+    Keyword::Conflict,
+    Keyword::Constraint,
+    Keyword::Create,
+    Keyword::Cross,
+    Keyword::Current,
+    Keyword::CurrentDate,
+    Keyword::CurrentTime,
+    Keyword::CurrentTimestamp,
+    Keyword::Database,
+    Keyword::Default,
+    Keyword::Deferrable,
+    Keyword::Deferred,
+    Keyword::Delete,
+    Keyword::Desc,
+    Keyword::Detach,
+    Keyword::Distinct,
+    Keyword::Do,
+    Keyword::Drop,
+    Keyword::Each,
+    Keyword::Else,
+    Keyword::End,
+    Keyword::Escape,
+    Keyword::Except,
+    Keyword::Exclude,
+    Keyword::Exclusive,
+    Keyword::Exists,
+    Keyword::Explain,
+    Keyword::Fail,
+    Keyword::Filter,
+    Keyword::First,
+    Keyword::Following,
+    Keyword::For,
+    Keyword::Foreign,
+    Keyword::From,
+    Keyword::Full,
+    Keyword::Generated,
+    Keyword::Glob,
+    Keyword::Group,
+    Keyword::Groups,
+    Keyword::Having,
+    Keyword::If,
+    Keyword::Ignore,
+    Keyword::Immediate,
+    Keyword::In,
+    Keyword::Index,
+    Keyword::Indexed,
+    Keyword::Initially,
+    Keyword::Inner,
+    Keyword::Insert,
+    Keyword::Instead,
+    Keyword::Intersect,
+    Keyword::Into,
+    Keyword::Is,
+    Keyword::IsNull,
+    Keyword::Join,
+    Keyword::Key,
+    Keyword::Last,
+    Keyword::Left,
+    Keyword::Like,
+    Keyword::Limit,
+    Keyword::Match,
+    Keyword::Materialized,
+    Keyword::Natural,
+    Keyword::No,
+    Keyword::Not,
+    Keyword::Nothing,
+    Keyword::NotNull,
+    Keyword::Null,
+    Keyword::Nulls,
+    Keyword::Of,
+    Keyword::Offset,
+    Keyword::On,
+    Keyword::Or,
+    Keyword::Order,
+    Keyword::Others,
+    Keyword::Outer,
+    Keyword::Over,
+    Keyword::Partition,
+    Keyword::Plan,
+    Keyword::Pragma,
+    Keyword::Preceding,
+    Keyword::Primary,
+    Keyword::Query,
+    Keyword::Raise,
+    Keyword::Range,
+    Keyword::Rebuild,
+    Keyword::Recursive,
+    Keyword::References,
+    Keyword::Regexp,
+    Keyword::Reindex,
+    Keyword::Release,
+    Keyword::Rename,
+    Keyword::Replace,
+    Keyword::Restrict,
+    Keyword::Returning,
+    Keyword::Right,
+    Keyword::Rollback,
+    Keyword::Row,
+    Keyword::Rows,
+    Keyword::Savepoint,
+    Keyword::Select,
+    Keyword::Set,
+    Keyword::Table,
+    Keyword::Temp,
+    Keyword::Temporary,
+    Keyword::Then,
+    Keyword::Ties,
+    Keyword::To,
+    Keyword::Transaction,
+    Keyword::Trigger,
+    Keyword::Unbounded,
+    Keyword::Union,
+    Keyword::Unique,
+    Keyword::Update,
+    Keyword::Using,
+    Keyword::Vacuum,
+    Keyword::Values,
+    Keyword::View,
+    Keyword::Virtual,
+    Keyword::When,
+    Keyword::Where,
+    Keyword::Window,
+    Keyword::With,
+    Keyword::Without,
 ];
 
 /// The keyword that the word spells, in letters of either case.
 pub fn keyword_of(word: &[u8]) -> Option<Keyword>
     ensures found { IfSome result (λ keyword. folded word.now ≡ spelling keyword) }
-    ensures none { IfNone result ((keyword : Keyword) → folded word.now ≢ spelling keyword) }
+    ensures only { (keyword : Keyword) → folded word.now ≡ spelling keyword → result ≡ Some keyword }
 {
-    lookup(&KEYWORDS, word)
+    first_spelled(&KEYWORDS, word)
 }
 
-fn lookup(table: &[(&[u8], Keyword)], word: &[u8]) -> Option<Keyword>
-    ensures { result ≡ entry_of (map (λ entry. (folded entry.0.now, entry.1)) table.entry.now) (folded word.now) }
+/// The first of the keywords that the word spells.
+fn first_spelled(keywords: &[Keyword], word: &[u8]) -> Option<Keyword>
+    ensures { result ≡ first_spelled (folded word.now) keywords.now }
 {
-    for entry in table {
-        if same_name(entry.0, word) {
-            return Some(entry.1);
+    for keyword in keywords {
+        if same_name(keyword.spelling(), word) {
+            return Some(*keyword);
         }
     }
     None
 }
 
 impl Keyword {
+    /// The word in lower-case letters.
+    pub fn spelling(self) -> &'static [u8]
+        ensures { result.now ≡ spelling self }
+    {
+        self.entry().0
+    }
+
     /// Whether the word is never a name.
     pub fn is_reserved(self) -> bool
         ensures { result ≡ is_reserved self }
     {
-        matches!(
-            self,
-            Keyword::Add
-                | Keyword::All
-                | Keyword::Alter
-                | Keyword::And
-                | Keyword::As
-                | Keyword::AutoIncrement
-                | Keyword::Between
-                | Keyword::Case
-                | Keyword::Check
-                | Keyword::Collate
-                | Keyword::Commit
-                | Keyword::Constraint
-                | Keyword::Create
-                | Keyword::Default
-                | Keyword::Deferrable
-                | Keyword::Delete
-                | Keyword::Distinct
-                | Keyword::Drop
-                | Keyword::Else
-                | Keyword::Escape
-                | Keyword::Except
-                | Keyword::Exists
-                | Keyword::Foreign
-                | Keyword::From
-                | Keyword::Group
-                | Keyword::Having
-                | Keyword::In
-                | Keyword::Index
-                | Keyword::Insert
-                | Keyword::Intersect
-                | Keyword::Into
-                | Keyword::Is
-                | Keyword::IsNull
-                | Keyword::Join
-                | Keyword::Limit
-                | Keyword::Not
-                | Keyword::Nothing
-                | Keyword::NotNull
-                | Keyword::Null
-                | Keyword::On
-                | Keyword::Or
-                | Keyword::Order
-                | Keyword::Primary
-                | Keyword::References
-                | Keyword::Returning
-                | Keyword::Select
-                | Keyword::Set
-                | Keyword::Table
-                | Keyword::Then
-                | Keyword::To
-                | Keyword::Transaction
-                | Keyword::Union
-                | Keyword::Unique
-                | Keyword::Update
-                | Keyword::Using
-                | Keyword::Values
-                | Keyword::When
-                | Keyword::Where
-        )
+        matches!(self.entry().1, Role::Reserved)
     }
 
     /// Whether the word may begin a join, so that it is no alias.
     pub fn is_join_word(self) -> bool
         ensures { result ≡ is_join_word self }
     {
-        matches!(
-            self,
-            Keyword::Cross
-                | Keyword::Full
-                | Keyword::Indexed
-                | Keyword::Inner
-                | Keyword::Left
-                | Keyword::Natural
-                | Keyword::Outer
-                | Keyword::Right
-        )
+        matches!(self.entry().1, Role::JoinWord)
+    }
+
+    /// The table: each keyword's spelling and role.
+    fn entry(self) -> (&'static [u8], Role)
+        ensures spelled { result.0.now ≡ spelling self }
+        ensures role { result.1 ≡ role_of self }
+    {
+        match self {
+            Keyword::Abort => (b"abort", Role::Name),
+            Keyword::Action => (b"action", Role::Name),
+            Keyword::Add => (b"add", Role::Reserved),
+            Keyword::After => (b"after", Role::Name),
+            Keyword::All => (b"all", Role::Reserved),
+            Keyword::Alter => (b"alter", Role::Reserved),
+            Keyword::Always => (b"always", Role::Name),
+            Keyword::Analyze => (b"analyze", Role::Name),
+            Keyword::And => (b"and", Role::Reserved),
+            Keyword::As => (b"as", Role::Reserved),
+            Keyword::Asc => (b"asc", Role::Name),
+            Keyword::Attach => (b"attach", Role::Name),
+            Keyword::AutoIncrement => (b"autoincrement", Role::Reserved),
+            Keyword::Before => (b"before", Role::Name),
+            Keyword::Begin => (b"begin", Role::Name),
+            Keyword::Between => (b"between", Role::Reserved),
+            Keyword::By => (b"by", Role::Name),
+            Keyword::Cascade => (b"cascade", Role::Name),
+            Keyword::Case => (b"case", Role::Reserved),
+            Keyword::Cast => (b"cast", Role::Name),
+            Keyword::Check => (b"check", Role::Reserved),
+            Keyword::Collate => (b"collate", Role::Reserved),
+            Keyword::Column => (b"column", Role::Name),
+            Keyword::Commit => (b"commit", Role::Reserved),
+            Keyword::Conflict => (b"conflict", Role::Name),
+            Keyword::Constraint => (b"constraint", Role::Reserved),
+            Keyword::Create => (b"create", Role::Reserved),
+            Keyword::Cross => (b"cross", Role::JoinWord),
+            Keyword::Current => (b"current", Role::Name),
+            Keyword::CurrentDate => (b"current_date", Role::Name),
+            Keyword::CurrentTime => (b"current_time", Role::Name),
+            Keyword::CurrentTimestamp => (b"current_timestamp", Role::Name),
+            Keyword::Database => (b"database", Role::Name),
+            Keyword::Default => (b"default", Role::Reserved),
+            Keyword::Deferrable => (b"deferrable", Role::Reserved),
+            Keyword::Deferred => (b"deferred", Role::Name),
+            Keyword::Delete => (b"delete", Role::Reserved),
+            Keyword::Desc => (b"desc", Role::Name),
+            Keyword::Detach => (b"detach", Role::Name),
+            Keyword::Distinct => (b"distinct", Role::Reserved),
+            Keyword::Do => (b"do", Role::Name),
+            Keyword::Drop => (b"drop", Role::Reserved),
+            Keyword::Each => (b"each", Role::Name),
+            Keyword::Else => (b"else", Role::Reserved),
+            Keyword::End => (b"end", Role::Name),
+            Keyword::Escape => (b"escape", Role::Reserved),
+            Keyword::Except => (b"except", Role::Reserved),
+            Keyword::Exclude => (b"exclude", Role::Name),
+            Keyword::Exclusive => (b"exclusive", Role::Name),
+            Keyword::Exists => (b"exists", Role::Reserved),
+            Keyword::Explain => (b"explain", Role::Name),
+            Keyword::Fail => (b"fail", Role::Name),
+            Keyword::Filter => (b"filter", Role::Name),
+            Keyword::First => (b"first", Role::Name),
+            Keyword::Following => (b"following", Role::Name),
+            Keyword::For => (b"for", Role::Name),
+            Keyword::Foreign => (b"foreign", Role::Reserved),
+            Keyword::From => (b"from", Role::Reserved),
+            Keyword::Full => (b"full", Role::JoinWord),
+            Keyword::Generated => (b"generated", Role::Name),
+            Keyword::Glob => (b"glob", Role::Name),
+            Keyword::Group => (b"group", Role::Reserved),
+            Keyword::Groups => (b"groups", Role::Name),
+            Keyword::Having => (b"having", Role::Reserved),
+            Keyword::If => (b"if", Role::Name),
+            Keyword::Ignore => (b"ignore", Role::Name),
+            Keyword::Immediate => (b"immediate", Role::Name),
+            Keyword::In => (b"in", Role::Reserved),
+            Keyword::Index => (b"index", Role::Reserved),
+            Keyword::Indexed => (b"indexed", Role::JoinWord),
+            Keyword::Initially => (b"initially", Role::Name),
+            Keyword::Inner => (b"inner", Role::JoinWord),
+            Keyword::Insert => (b"insert", Role::Reserved),
+            Keyword::Instead => (b"instead", Role::Name),
+            Keyword::Intersect => (b"intersect", Role::Reserved),
+            Keyword::Into => (b"into", Role::Reserved),
+            Keyword::Is => (b"is", Role::Reserved),
+            Keyword::IsNull => (b"isnull", Role::Reserved),
+            Keyword::Join => (b"join", Role::Reserved),
+            Keyword::Key => (b"key", Role::Name),
+            Keyword::Last => (b"last", Role::Name),
+            Keyword::Left => (b"left", Role::JoinWord),
+            Keyword::Like => (b"like", Role::Name),
+            Keyword::Limit => (b"limit", Role::Reserved),
+            Keyword::Match => (b"match", Role::Name),
+            Keyword::Materialized => (b"materialized", Role::Name),
+            Keyword::Natural => (b"natural", Role::JoinWord),
+            Keyword::No => (b"no", Role::Name),
+            Keyword::Not => (b"not", Role::Reserved),
+            Keyword::Nothing => (b"nothing", Role::Reserved),
+            Keyword::NotNull => (b"notnull", Role::Reserved),
+            Keyword::Null => (b"null", Role::Reserved),
+            Keyword::Nulls => (b"nulls", Role::Name),
+            Keyword::Of => (b"of", Role::Name),
+            Keyword::Offset => (b"offset", Role::Name),
+            Keyword::On => (b"on", Role::Reserved),
+            Keyword::Or => (b"or", Role::Reserved),
+            Keyword::Order => (b"order", Role::Reserved),
+            Keyword::Others => (b"others", Role::Name),
+            Keyword::Outer => (b"outer", Role::JoinWord),
+            Keyword::Over => (b"over", Role::Name),
+            Keyword::Partition => (b"partition", Role::Name),
+            Keyword::Plan => (b"plan", Role::Name),
+            Keyword::Pragma => (b"pragma", Role::Name),
+            Keyword::Preceding => (b"preceding", Role::Name),
+            Keyword::Primary => (b"primary", Role::Reserved),
+            Keyword::Query => (b"query", Role::Name),
+            Keyword::Raise => (b"raise", Role::Name),
+            Keyword::Range => (b"range", Role::Name),
+            Keyword::Rebuild => (b"rebuild", Role::Name),
+            Keyword::Recursive => (b"recursive", Role::Name),
+            Keyword::References => (b"references", Role::Reserved),
+            Keyword::Regexp => (b"regexp", Role::Name),
+            Keyword::Reindex => (b"reindex", Role::Name),
+            Keyword::Release => (b"release", Role::Name),
+            Keyword::Rename => (b"rename", Role::Name),
+            Keyword::Replace => (b"replace", Role::Name),
+            Keyword::Restrict => (b"restrict", Role::Name),
+            Keyword::Returning => (b"returning", Role::Reserved),
+            Keyword::Right => (b"right", Role::JoinWord),
+            Keyword::Rollback => (b"rollback", Role::Name),
+            Keyword::Row => (b"row", Role::Name),
+            Keyword::Rows => (b"rows", Role::Name),
+            Keyword::Savepoint => (b"savepoint", Role::Name),
+            Keyword::Select => (b"select", Role::Reserved),
+            Keyword::Set => (b"set", Role::Reserved),
+            Keyword::Table => (b"table", Role::Reserved),
+            Keyword::Temp => (b"temp", Role::Name),
+            Keyword::Temporary => (b"temporary", Role::Name),
+            Keyword::Then => (b"then", Role::Reserved),
+            Keyword::Ties => (b"ties", Role::Name),
+            Keyword::To => (b"to", Role::Reserved),
+            Keyword::Transaction => (b"transaction", Role::Reserved),
+            Keyword::Trigger => (b"trigger", Role::Name),
+            Keyword::Unbounded => (b"unbounded", Role::Name),
+            Keyword::Union => (b"union", Role::Reserved),
+            Keyword::Unique => (b"unique", Role::Reserved),
+            Keyword::Update => (b"update", Role::Reserved),
+            Keyword::Using => (b"using", Role::Reserved),
+            Keyword::Vacuum => (b"vacuum", Role::Name),
+            Keyword::Values => (b"values", Role::Reserved),
+            Keyword::View => (b"view", Role::Name),
+            Keyword::Virtual => (b"virtual", Role::Name),
+            Keyword::When => (b"when", Role::Reserved),
+            Keyword::Where => (b"where", Role::Reserved),
+            Keyword::Window => (b"window", Role::Name),
+            Keyword::With => (b"with", Role::Name),
+            Keyword::Without => (b"without", Role::Name),
+        }
     }
 }

@@ -1,6 +1,3 @@
-ghost use Rattle.std.specs.Prelude.{IsTrue};
-ghost use Rattle.sql_token.specs.Names.{IsNameKind};
-
 use super::*;
 use std::alloc::Global;
 use std::test::Fail;
@@ -58,16 +55,10 @@ fn each_token_is_the_longest(rt: HostRuntime) -> Result<(), Fail> {
     Ok(())
 }
 
-fn is_name(kind: TokenKind) -> bool
-    ensures { IsTrue result → IsNameKind kind }
-{
-    matches!(kind, TokenKind::Word | TokenKind::Quoted | TokenKind::Str)
-}
-
 /// The name of the one token.
 fn name_in(alloc: Global, text: &[u8]) -> Result<Vec<u8>, Fail> {
     let list = tokens(alloc, text)?;
-    if list.len() == 1 && is_name(list[0].kind) {
+    if list.len() == 1 && is_name(text, &list[0]) {
         Ok(name_of(alloc, text, &list[0])?)
     } else {
         Err(Fail::from("no name"))
