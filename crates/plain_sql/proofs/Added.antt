@@ -13,7 +13,7 @@ use Rattle.sql_token.specs.Fixed.{IsFixed, IsSign}
 use Rattle.plain_sql.specs.Words.{IsPlainName, IsPlainWord}
 use Rattle.plain_sql.specs.TableText.{ArePlain, IsColumn, AreColumns, SpellsTable, last_end}
 use Rattle.plain_sql.proofs.ColumnsLemmas.{IsMadeOf}
-use Rattle.plain_sql.proofs.WordsLists.{all_append, all_behind, all_before}
+use Rattle.common_laws.proofs.Each.{all_append, all_behind, all_before}
 
 -- ---- what the same bytes spell
 

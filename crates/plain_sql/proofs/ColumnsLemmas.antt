@@ -8,7 +8,8 @@ use Rattle.sql_token.specs.Token.{span, AreTokens, AreTokensIn}
 use Rattle.sql_token.specs.Fixed.{IsFixed, IsSign}
 use Rattle.plain_sql.specs.Words.{IsPlain, IsPlainName}
 use Rattle.plain_sql.specs.TableText.{ArePlain, IsColumn, AreColumns, IsStop, IsBehindWords, BeginsColumn, IsFrame, SpellsTable, last_end}
-use Rattle.plain_sql.proofs.WordsLists.{all_at, all_append, cut_one, last_apart, four_and_last}
+use Rattle.common_laws.proofs.Each.{all_at, all_append, cut_one}
+use Rattle.common_laws.proofs.Lists.{last_apart, four_and_last}
 
 -- a sign is no word
 pub sign_not_plain : (text sign : List ℕ) (token : Token) → IsSign text sign token → IsPlain text token → ⊥

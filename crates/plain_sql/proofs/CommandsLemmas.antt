@@ -11,7 +11,7 @@ use Rattle.sql_token.specs.Fixed.{IsFixed, IsSign}
 use Rattle.plain_sql.specs.declared.script.Command.{Command}
 use Rattle.plain_sql.specs.Words.{IsPlainName}
 use Rattle.plain_sql.specs.Script.{IsColumnWord, SpellsCommand, AreEnds, IsEnded, SpellsCommands, BeginsCommand, IsAdd, IsBehindColumnWord, IsBeyondEnds, IsBehindEnds}
-use Rattle.plain_sql.proofs.WordsLists.{all_at, all_append, all_behind, cut_one}
+use Rattle.common_laws.proofs.Each.{all_at, all_append, all_behind, cut_one}
 
 -- the token is a `;`
 abbrev IsEnd : List ℕ → Token → Type 0

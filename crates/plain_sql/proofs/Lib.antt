@@ -4,4 +4,3 @@ pub mod CommandsLemmas
 pub mod NamesLemmas
 pub mod Spelled
 pub mod WordsLemmas
-pub mod WordsLists

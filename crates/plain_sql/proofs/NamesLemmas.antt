@@ -1,10 +1,10 @@
 -- Names that are alike, and names that are apart.
-use Rattle.std.proofs.Common.{◌≡◌, ◌≢◌, ℕ, suc, Bool, true, false, ◌||◌, List, ◌∷◌, nat_eq, AllPairs, sym, subst, ap, ◌∙◌, arith}
+use Rattle.std.proofs.Common.{◌≡◌, ◌≢◌, ℕ, Bool, true, false, ◌||◌, List, ◌∷◌, nat_eq, AllPairs, sym, ap, ◌∙◌}
 use Rattle.std.proofs.lemmas.Bool.{both_ways, false_from_ne_true}
 use Rattle.std.proofs.lemmas.List.Folds.{Any-from_list_any, list_any_at}
-use Rattle.std.proofs.lemmas.List.Kept.{AllPairs-cons}
 use Rattle.std.specs.List.{list_any}
 use Rattle.std.specs.Cmp.Lexicographic.{pointwise, bytes_decides}
+use Rattle.common_laws.proofs.Pairs.{pairs_first, pairs_in_front}
 use Rattle.sql_token.specs.Names.{folded}
 
 -- whether two names are alike
@@ -28,20 +28,11 @@ any_alike-further a b bs other =
 pub alike_among : (xs rest : List (List ℕ)) (x : List ℕ) → xs ≡ x ∷ rest → list_any (is_alike x) rest ≡ true → AllPairs AreApart xs → ⊥
 alike_among xs rest x front some apart =
     let (k, y, below, at, same) = Any-from_list_any (is_alike x) rest some in
-    let P : List (List ℕ) → Type 0 = λ l. AllPairs AreApart l in
-    subst P front apart 0 (suc k) y (omega arith) (omega arith) ((bytes_decides (folded x) (folded y)).0 same ∙ ap folded (sym at))
-
--- the later names are apart
-pub apart_behind : (xs rest : List (List ℕ)) (x : List ℕ) → xs ≡ x ∷ rest → AllPairs AreApart xs → AllPairs AreApart rest
-apart_behind xs rest x front apart =
-    let P : List (List ℕ) → Type 0 = λ l. AllPairs AreApart l in
-    λ i j d lower below. subst P front apart (suc i) (suc j) d (omega arith) (omega arith)
+    pairs_first AreApart xs rest x front apart k y below ((bytes_decides (folded x) (folded y)).0 same ∙ ap folded (sym at))
 
 -- a first name that is not alike any later one
 pub apart_in_front : (xs rest : List (List ℕ)) (x : List ℕ) → xs ≡ x ∷ rest → list_any (is_alike x) rest ≡ false → AllPairs AreApart rest → AllPairs AreApart xs
 apart_in_front xs rest x front none apart =
-    let P : List (List ℕ) → Type 0 = λ l. AllPairs AreApart l in
-    subst P (sym front)
-    (AllPairs-cons AreApart x rest
+    pairs_in_front AreApart xs rest x front
     (λ k d below same. both_ways _ none (list_any_at (is_alike x) rest k d below ((bytes_decides (folded x) (folded _)).1 same)))
-    apart)
+    apart

@@ -11,7 +11,7 @@ use Rattle.sql_token.proofs.Stands.{word_form}
 use Rattle.plain_sql.specs.declared.script.Command.{Command}
 use Rattle.plain_sql.specs.Words.{IsPlainName, IsPlainWord}
 use Rattle.plain_sql.specs.Script.{SpellsCommand, SpellsCommands, IsCommandList, IsPlainCommand, IsWithin}
-use Rattle.plain_sql.proofs.WordsLists.{all_at, all_before, all_behind}
+use Rattle.common_laws.proofs.Each.{all_at, all_before, all_behind}
 
 -- each of the tokens stands in the text
 all_stand : (text : List ℕ) (from to : ℕ) (list : List Token) → AreTokensIn text from to list → AllByRecursion (IsTokenAt text) list

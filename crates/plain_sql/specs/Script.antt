@@ -2,14 +2,16 @@
 -- and none of SQL's. The last `;` may be absent, and an empty command is none.
 use Rattle.std.specs.Prelude.{◌≡◌, ◌≤◌, ℕ, List, [], ◌∷◌, ◌++◌, length, codes, Option, Result, Vec}
 use Rattle.std.specs.List.{AllByRecursion}
+use Rattle.std.specs.Option.{IsSomeAnd}
 use Rattle.std.specs.declared.alloc.AllocError.{AllocError}
 use Rattle.std.specs.declared.alloc.Global.{Global}
+use Rattle.common_laws.specs.Results.{AnyError, Yields}
 use Rattle.sql_token.specs.declared.token.Token.{Token}
 use Rattle.sql_token.specs.declared.keyword.Keyword.TheVariants.{Alter, Table, Add, Column}
 use Rattle.sql_token.specs.Token.{AreTokens}
 use Rattle.sql_token.specs.Fixed.{IsFixed, IsSign}
 use Rattle.plain_sql.specs.declared.script.Command.{Command}
-use Rattle.plain_sql.specs.Words.{IsPlainName, IsPlainWord, IsRead}
+use Rattle.plain_sql.specs.Words.{IsPlainName, IsPlainWord}
 
 -- the word COLUMN, or nothing
 abbrev pub IsColumnWord : List ℕ → List Token → Type 0
@@ -62,7 +64,7 @@ pub record IsScript (text : List ℕ) (commands : List Command) : Type 0 where
 
 -- these commands were read, unless memory ran out
 abbrev pub IsListReadAs : List Command → Result (Option (Vec Command Global)) AllocError → Type 0
-IsListReadAs commands result = IsRead (λ read. read.items ≡ commands) result
+IsListReadAs commands result = Yields AnyError (λ read. IsSomeAnd read (λ list. list.items ≡ commands)) result
 
 -- both names of the command are words and none of SQL's
 pub record IsPlainCommand (command : Command) : Type 0 where

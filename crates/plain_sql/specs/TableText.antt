@@ -2,13 +2,15 @@
 -- words, the first of them its name, and no word but CREATE and TABLE is one of SQL's.
 use Rattle.std.specs.Prelude.{◌≡◌, ℕ, List, [], ◌∷◌, ◌++◌, Option, Result, codes}
 use Rattle.std.specs.List.{AllByRecursion}
+use Rattle.std.specs.Option.{IsSomeAnd}
 use Rattle.std.specs.declared.alloc.AllocError.{AllocError}
+use Rattle.common_laws.specs.Results.{AnyError, Yields}
 use Rattle.sql_token.specs.declared.token.Token.{Token}
 use Rattle.sql_token.specs.declared.keyword.Keyword.TheVariants.{Create, Table}
 use Rattle.sql_token.specs.Token.{AreTokens}
 use Rattle.sql_token.specs.Fixed.{IsFixed, IsSign}
 use Rattle.plain_sql.specs.declared.table.TableText.{TableText}
-use Rattle.plain_sql.specs.Words.{IsPlainName, IsPlain, IsRead}
+use Rattle.plain_sql.specs.Words.{IsPlainName, IsPlain}
 
 -- each of the tokens is a word and none of SQL's
 abbrev pub ArePlain : List ℕ → List Token → Type 0
@@ -55,7 +57,8 @@ pub record SpellsTable (text name : List ℕ) (columns : List (List ℕ)) (end :
 
 -- a table of this name with these columns and this place behind them was read, unless memory ran out
 abbrev pub IsTableReadAs : List ℕ → List (List ℕ) → ℕ → Result (Option TableText) AllocError → Type 0
-IsTableReadAs name columns end result = IsRead (λ table. (table.name ≡ name) × (table.columns ≡ columns) × (table.columns_end ≡ end)) result
+IsTableReadAs name columns end result =
+    Yields AnyError (λ read. IsSomeAnd read (λ table. (table.name ≡ name) × (table.columns ≡ columns) × (table.columns_end ≡ end))) result
 
 -- the four fixed tokens of a table's text
 pub record IsFrame (text : List ℕ) (create_word table_word left right : Token) : Type 0 where

@@ -1,5 +1,5 @@
 -- The tokens of the texts and scripts that are served so far.
-use Rattle.std.specs.Prelude.{◌≡◌, ◌≢◌, ℕ, List, Option, Some, None, Result, Ok, Err}
+use Rattle.std.specs.Prelude.{◌≡◌, ◌≢◌, ℕ, List}
 use Rattle.sql_token.specs.declared.token.Token.{Token}
 use Rattle.sql_token.specs.declared.token.TokenKind.TheVariants.{Word}
 use Rattle.sql_token.specs.declared.keyword.Keyword.{Keyword}
@@ -22,9 +22,3 @@ pub record IsPlainWord (name : List ℕ) : Type 0 where
 -- the token is a word that is none of SQL's
 abbrev pub IsPlain : List ℕ → Token → Type 0
 IsPlain text token = (name : List ℕ) × IsPlainName text token name
-
--- the text was read, unless memory ran out, and the fact holds of what it was read as
-abbrev pub IsRead : {A E : Type 0} → (A → Type 0) → Result (Option A) E → Type 0
-IsRead P (Ok (Some read)) = P read
-IsRead P (Ok None) = ⊥
-IsRead P (Err fault) = Unit {0}

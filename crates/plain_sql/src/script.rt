@@ -6,7 +6,7 @@ ghost use Rattle.plain_sql.specs.declared.script.Command.{Command};
 ghost use Rattle.plain_sql.specs.Words.{IsPlainName};
 ghost use Rattle.plain_sql.specs.Script.{IsCommandList, IsScript, IsPlainCommand, IsWithin, IsListReadAs, SpellsCommands, SpellsCommand, BeginsCommand, IsAdd, IsColumnWord, IsBehindColumnWord, IsBehindEnds, IsEnded};
 
-use crate::words::{plain_name, tokens_of};
+use crate::words::{plain_name, read_tokens};
 use alter_bytes::Bytes;
 use sql_token::{Keyword, Token, is_fixed, is_sign};
 use std::alloc::{AllocError, Global};
@@ -51,7 +51,7 @@ fn read_commands(alloc: Global, text: &[u8]) -> Result<Option<Vec<Command>>, All
     ensures found { IfOk result (λ read. IfSome read (λ commands. IsCommandList text.now commands.items)) }
     ensures only { (commands : List Command) → IsCommandList text.now commands → IsListReadAs commands result }
 {
-    let Some(list) = tokens_of(alloc, text)? else {
+    let Some(list) = read_tokens(alloc, text)? else {
         return Ok(None);
     };
     commands_of(alloc, text, list.as_slice())

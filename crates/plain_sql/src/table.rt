@@ -1,11 +1,12 @@
 //! The texts of tables.
 ghost use Rattle.std.specs.Prelude.{◌≡◌, ◌≤◌, ◌↔◌, List, ℕ, ◌++◌, length, IsTrue, IfOk, IfSome, IfNone};
+ghost use Rattle.std.specs.Option.{IsSomeAnd};
+ghost use Rattle.common_laws.specs.Results.{AnyError, Yields};
 ghost use Rattle.sql_token.specs.declared.token.Token.{Token};
-ghost use Rattle.plain_sql.specs.Words.{IsRead};
 ghost use Rattle.plain_sql.specs.TableText.{SpellsTable, IsTableReadAs, IsFrame, AreColumns, IsColumn, BeginsColumn, IsBehindWords, last_end};
 
 use crate::names::Names;
-use crate::words::{plain_name, tokens_of};
+use crate::words::{plain_name, read_tokens};
 use alter_bytes::Bytes;
 use sql_token::{Keyword, Token, is_fixed, is_sign};
 use std::alloc::{AllocError, Global};
@@ -25,7 +26,7 @@ pub fn read_table(alloc: Global, text: &[u8]) -> Result<Option<TableText>, Alloc
     ensures only { (name : List ℕ) (columns : List (List ℕ)) (end : ℕ) → SpellsTable text.now name columns end → IsTableReadAs name columns end result }
     ensures inside { IfOk result (λ read. IfSome read (λ t. t.columns_end ≤ length text.now)) }
 {
-    let Some(list) = tokens_of(alloc, text)? else {
+    let Some(list) = read_tokens(alloc, text)? else {
         return Ok(None);
     };
     let [create, table, title, left, inside @ .., right] = list.as_slice() else {
@@ -71,7 +72,7 @@ fn end_of(tokens: &[Token]) -> usize
 /// The names of the columns, with a comma between each two.
 fn read_columns(alloc: Global, text: &[u8], tokens: &[Token]) -> Result<Option<Names>, AllocError>
     ensures found { IfOk result (λ read. IfSome read (λ names. AreColumns text.now tokens.now names)) }
-    ensures only { (names : List (List ℕ)) → AreColumns text.now tokens.now names → IsRead (λ read. read ≡ names) result }
+    ensures only { (names : List (List ℕ)) → AreColumns text.now tokens.now names → Yields AnyError (λ read. IsSomeAnd read (λ found. found ≡ names)) result }
 {
     let mut names = Names::new(alloc);
     let mut rest = tokens;

@@ -1,5 +1,5 @@
 use Rattle.plain_sql.proofs.CommandsLemmas.{behind_column, behind_column_only}
-use Rattle.plain_sql.proofs.WordsLists.{first_or}
+use Rattle.common_laws.proofs.Lists.{first_or}
 use Rattle.plain_sql.proofs.script.behind_column_word.Goals as goal
 
 pub returns-in-len1-up-clause-found : goal.returns-in-len1-up-clause-found

@@ -1,5 +1,5 @@
 use Rattle.plain_sql.proofs.CommandsLemmas.{ends_further}
-use Rattle.plain_sql.proofs.WordsLists.{first_or}
+use Rattle.common_laws.proofs.Lists.{first_or}
 use Rattle.plain_sql.proofs.script.behind_ends.Goals as goal
 
 pub loop-rest-preserved : goal.loop-rest-preserved

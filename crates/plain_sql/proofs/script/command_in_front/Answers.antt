@@ -5,8 +5,8 @@ use Rattle.plain_sql.specs.Words.{IsPlainName}
 use Rattle.plain_sql.specs.Script.{SpellsCommand}
 use Rattle.plain_sql.proofs.ColumnsLemmas.{blank}
 use Rattle.plain_sql.proofs.CommandsLemmas.{made_of_command, begins_command, same_column}
-use Rattle.plain_sql.proofs.WordsLemmas.{if_none_so}
-use Rattle.plain_sql.proofs.WordsLists.{first_or, four_and_rest}
+use Rattle.common_laws.proofs.Options.{if_none_so}
+use Rattle.common_laws.proofs.Lists.{first_or, four_and_rest}
 use Rattle.plain_sql.proofs.script.command_in_front.Goals as goal
 
 pub returns-in_err-table-clause-none : goal.returns-in_err-table-clause-none

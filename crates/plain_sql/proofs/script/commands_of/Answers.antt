@@ -2,7 +2,7 @@ use Rattle.std.proofs.Common.{sym, subst, List, ℕ, [], ◌∷◌, ◌++◌, ap
 use Rattle.std.proofs.lemmas.Bool.{both_ways}
 use Rattle.plain_sql.specs.declared.script.Command.{Command}
 use Rattle.plain_sql.proofs.CommandsLemmas.{GoesOn, goes_on_at_first, goes_on, goes_to_end, goes_to_end_only, goes_to_no_command, goes_to_no_end}
-use Rattle.plain_sql.proofs.WordsLists.{some_left, none_left}
+use Rattle.common_laws.proofs.Lists.{some_left, none_left}
 use Rattle.plain_sql.proofs.script.commands_of.Goals as goal
 
 pub loop-rest-init : goal.loop-rest-init

@@ -1,6 +1,6 @@
 use Rattle.std.proofs.Common.{length, ap, arith}
 use Rattle.plain_sql.proofs.Spelled.{plain_commands, short_commands}
-use Rattle.plain_sql.proofs.WordsLemmas.{read_none, read_some, if_some}
+use Rattle.common_laws.proofs.Options.{read_none, read_some, if_some}
 use Rattle.plain_sql.proofs.script.read_script.Goals as goal
 
 pub returns-in_default-clause-only : goal.returns-in_default-clause-only

@@ -1,7 +1,7 @@
 use Rattle.std.proofs.Common.{not, ap, ◌∙◌}
 use Rattle.plain_sql.proofs.ColumnsLemmas.{words_further}
-use Rattle.plain_sql.proofs.WordsLemmas.{some_so}
-use Rattle.plain_sql.proofs.WordsLists.{first_or}
+use Rattle.common_laws.proofs.Options.{some_so}
+use Rattle.common_laws.proofs.Lists.{first_or}
 use Rattle.plain_sql.proofs.table.behind_words.Goals as goal
 
 pub loop-rest-preserved : goal.loop-rest-preserved

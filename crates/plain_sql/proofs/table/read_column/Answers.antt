@@ -1,5 +1,5 @@
 use Rattle.plain_sql.proofs.ColumnsLemmas.{column_begins}
-use Rattle.plain_sql.proofs.WordsLists.{first_or}
+use Rattle.common_laws.proofs.Lists.{first_or}
 use Rattle.plain_sql.proofs.table.read_column.Goals as goal
 
 pub returns-clause-found : goal.returns-clause-found

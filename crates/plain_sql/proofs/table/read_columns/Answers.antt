@@ -1,7 +1,7 @@
 use Rattle.std.proofs.Common.{sym, ap, ◌∙◌, subst, ◌++◌, ◌∷◌, ◌-◌, [], List, ℕ, length, take, drop}
 use Rattle.std.proofs.lemmas.Bool.{both_ways}
 use Rattle.plain_sql.proofs.ColumnsLemmas.{LeadsTo, leads_on, leads_to_end_only, leads_to_no_column, leads_to_no_comma}
-use Rattle.plain_sql.proofs.WordsLists.{first_or, none_below}
+use Rattle.common_laws.proofs.Lists.{first_or, none_below}
 use Rattle.plain_sql.proofs.table.read_columns.Goals as goal
 
 pub returns-in_default-clause-only : goal.returns-in_default-clause-only

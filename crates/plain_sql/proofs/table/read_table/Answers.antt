@@ -2,7 +2,8 @@ use Rattle.std.proofs.Common.{sym, ◌∙◌, subst}
 use Rattle.std.proofs.lemmas.Bool.{both_ways}
 use Rattle.plain_sql.specs.Words.{IsPlainName}
 use Rattle.plain_sql.proofs.ColumnsLemmas.{list_of, made_of_five, made_of_read, read_spells, ends_within}
-use Rattle.plain_sql.proofs.WordsLemmas.{read_none, read_some, read_only, read_tokens, if_some}
+use Rattle.common_laws.proofs.Options.{read_none, read_some, if_some}
+use Rattle.plain_sql.proofs.WordsLemmas.{read_only, tokens_read}
 use Rattle.plain_sql.proofs.table.read_table.Goals as goal
 
 pub returns-in_default-clause-only : goal.returns-in_default-clause-only
@@ -32,7 +33,7 @@ returns-in_default-2-clause-only c = λ name columns end spells.
 
 pub returns-clause-found : goal.returns-clause-found
 returns-clause-found c =
-    let tokens = read_tokens _ _ _ _ c.in-Some.is c.as_slice.ensures.value c.in_ok-list.ensures.found in
+    let tokens = tokens_read _ _ _ _ c.in-Some.is c.as_slice.ensures.value c.in_ok-list.ensures.found in
     read_spells _ _ _ _ _ tokens c.in-len5-up.len_at_least (record {
       frame = c.is_frame.ensures.0 c.if-not-is_frame.false;
       named = subst (IsPlainName c.args.text.now _) (sym c.in_ok-name.ensures) c.in-Some-plain_name.ensures.found;
