@@ -4,63 +4,27 @@ use Rattle.std.proofs.lemmas.Bool.{and_from, cond-true, eq-eqb, ne_eqb, not_from
 use Rattle.std.proofs.lemmas.List.{drop-take, get_or-drop, get_or-take, length-take-le}
 use Rattle.byteorder.specs.Endian.{big_bytes, big_number}
 use Rattle.byteorder.specs.Numbers.{big_from-take}
-use Rattle.alter_bytes.specs.Field.{overlaid}
-use Rattle.alter_bytes.proofs.Lists.{big_number_inside, drop-overlaid, length-big_bytes, length-overlaid, take-overlaid}
+use Rattle.alter_bytes.proofs.Fields.{IsApart, big_number_inside, length-big_bytes, length-overlaid, number-overlaid, part-overlaid, same_byte, same_number}
 use Rattle.alter_cli.specs.Header.{IsHeader, HasFixedBytes, HasServedFields, committed, has_page_count, is_page_size, next, number_at, page_count, page_size, put, usable_size}
 
--- a number that is put over others
-put-is : (n at v : ℕ) (header : List ℕ) → put n at v header ≡ overlaid header at (big_bytes n v)
-put-is n at v header = ap (λ (k : ℕ). take at header ++ big_bytes n v ++ drop (at + k) header) (sym (length-big_bytes n v))
+-- a number that is put into a header: how long that is, the number there, and what is apart from it
+length-put : (n at v : ℕ) (header : List ℕ) → at + n ≤ length header → length (put n at v header) ≡ length header
+length-put n at v header fits = length-overlaid header at (big_bytes n v) (omega (arith, length-big_bytes n v))
 
-pub length-put : (n at v : ℕ) (header : List ℕ) → at + n ≤ length header → length (put n at v header) ≡ length header
-length-put n at v header fits =
-    ap length (put-is n at v header) ∙ length-overlaid header at (big_bytes n v) (omega (arith, length-big_bytes n v))
-
-pub number_at-put : (n at v : ℕ) (header : List ℕ) → at ≤ length header → v < 256 ^ n → number_at n at (put n at v header) ≡ v
+number_at-put : (n at v : ℕ) (header : List ℕ) → at ≤ length header → v < 256 ^ n → number_at n at (put n at v header) ≡ v
 number_at-put n at v header within small =
-    big_number_inside n v (take at header) (drop (at + n) header) at small (length-take-le at header within)
+    big_number_inside n v (take at header) (drop (at + length (big_bytes n v)) header) at small (length-take-le at header within)
 
 -- the k bytes from m
-abbrev pub piece : ℕ → ℕ → List ℕ → List ℕ
+abbrev piece : ℕ → ℕ → List ℕ → List ℕ
 piece k m bytes = take k (drop m bytes)
 
-piece-before : (n at v k m : ℕ) (header : List ℕ) → m + k ≤ at → at ≤ length header → piece k m (put n at v header) ≡ piece k m header
-piece-before n at v k m header apart within =
-    ap (piece k m) (put-is n at v header)
-    ∙ sym (drop-take m k (overlaid header at (big_bytes n v)))
-    ∙ ap (drop m) (take-overlaid header at (big_bytes n v) (m + k) apart within)
-    ∙ drop-take m k header
+piece-put : (at v k m : ℕ) (header : List ℕ) → IsApart at 4 k m → at ≤ length header → piece k m (put 4 at v header) ≡ piece k m header
+piece-put at v k m header apart within = part-overlaid header at (big_bytes 4 v) k m apart within
 
-piece-behind : (n at v k m : ℕ) (header : List ℕ) → at + n ≤ m → at ≤ length header → piece k m (put n at v header) ≡ piece k m header
-piece-behind n at v k m header apart within =
-    ap (piece k m) (put-is n at v header)
-    ∙ ap (take k) (drop-overlaid header at (big_bytes n v) m (omega (arith, length-big_bytes n v)) within)
-
--- the k bytes from m are apart from the four bytes from `at`
-abbrev IsApart : ℕ → ℕ → ℕ → Type 0
-IsApart at k m = (m + k ≤ at) ⊎ (at + 4 ≤ m)
-
-piece-put : (at v k m : ℕ) (header : List ℕ) → IsApart at k m → at ≤ length header → piece k m (put 4 at v header) ≡ piece k m header
-piece-put at v k m header (inl before) within = piece-before 4 at v k m header before within
-piece-put at v k m header (inr behind) within = piece-behind 4 at v k m header behind within
-
--- the bytes make the number
-number_at-piece : (n m : ℕ) (a b : List ℕ) → piece n m a ≡ piece n m b → number_at n m a ≡ number_at n m b
-number_at-piece n m a b same =
-    sym (big_from-take 0 n n (drop m a) (omega arith)) ∙ ap (big_number n) same ∙ big_from-take 0 n n (drop m b) (omega arith)
-
-index-piece : (m : ℕ) (a b : List ℕ) → piece 1 m a ≡ piece 1 m b → slice_index a m ≡ slice_index b m
-index-piece m a b same = sym (first a) ∙ ap (λ (l : List ℕ). slice_index l 0) same ∙ first b
-  where
-    first : (l : List ℕ) → slice_index (piece 1 m l) 0 ≡ slice_index l m
-    first l =
-        let at : m + 0 ≡ m = omega arith in
-        get_or-take 1 (drop m l) 0 0 (omega arith) ∙ get_or-drop m l 0 0 ∙ ap (slice_index l) at
-
-number_at-apart : (at v n m : ℕ) (header : List ℕ) → IsApart at n m → at ≤ length header
+number_at-apart : (at v n m : ℕ) (header : List ℕ) → IsApart at 4 n m → at ≤ length header
     → number_at n m (put 4 at v header) ≡ number_at n m header
-number_at-apart at v n m header apart within =
-    number_at-piece n m (put 4 at v header) header (piece-put at v n m header apart within)
+number_at-apart at v n m header apart within = number-overlaid header at (big_bytes 4 v) n m apart within
 
 -- the five fields with these numbers
 abbrev five : ℕ → ℕ → ℕ → ℕ → List ℕ → List ℕ
@@ -69,11 +33,11 @@ five counter count cookie format header =
 
 -- the k bytes from m are apart from the five fields
 record AreApart (k m : ℕ) : Type 0 where
-  counter : IsApart 24 k m
-  count : IsApart 28 k m
-  cookie : IsApart 40 k m
-  format : IsApart 44 k m
-  version : IsApart 92 k m
+  counter : IsApart 24 4 k m
+  count : IsApart 28 4 k m
+  cookie : IsApart 40 4 k m
+  format : IsApart 44 4 k m
+  version : IsApart 92 4 k m
 
 front : (k m : ℕ) → m + k ≤ 24 → AreApart k m
 front k m h = record {
@@ -201,12 +165,12 @@ piece-committed count k m header len apart =
 number-committed : (count n m : ℕ) (header : List ℕ) → length header ≡ 100 → AreApart n m
     → number_at n m (committed count 3 header) ≡ number_at n m header
 number-committed count n m header len apart =
-    number_at-piece n m (committed count 3 header) header (piece-committed count n m header len apart)
+    same_number n m (committed count 3 header) header (piece-committed count n m header len apart)
 
 index-committed : (count m : ℕ) (header : List ℕ) → length header ≡ 100 → AreApart 1 m
     → slice_index (committed count 3 header) m ≡ slice_index header m
 index-committed count m header len apart =
-    index-piece m (committed count 3 header) header (piece-committed count 1 m header len apart)
+    same_byte m (committed count 3 header) header (piece-committed count 1 m header len apart)
 
 pub page_size-committed : (count : ℕ) (header : List ℕ) → length header ≡ 100 → page_size (committed count 3 header) ≡ page_size header
 page_size-committed count header len =

@@ -1,14 +1,12 @@
 -- A table of a row is the one that its text was read as, and so are the tables of rows.
-use Rattle.std.proofs.Common.{◌≡◌, ℕ, suc, ◌+◌, List, [], ◌∷◌, ◌++◌, length, take, Option, Some, None, Ok, refl, sym, ◌∙◌, ap, subst, arith, length-append, AllPairs, ◌≢◌}
+use Rattle.std.proofs.Common.{◌≡◌, ℕ, suc, ◌+◌, List, [], ◌∷◌, ◌++◌, length, take, Option, Some, None, Ok, refl, sym, ◌∙◌, ap, subst, arith, length-append, AllPairs, ◌≢◌, IsSomeAnd}
 use Rattle.std.proofs.lemmas.List.{length-map, take_all}
 use Rattle.std.specs.List.{AllByRecursion}
-use Rattle.std.specs.declared.alloc.AllocError.{AllocError}
 use Rattle.sql_token.specs.Names.{folded}
 use Rattle.schema_rows.specs.declared.schema.SchemaRow.{SchemaRow}
 use Rattle.alter_cli.specs.declared.table.Table.{Table}
 use Rattle.plain_sql.specs.declared.table.TableText.{TableText}
 use Rattle.plain_sql.specs.TableText.{SpellsTable, IsTableReadAs}
-use Rattle.plain_sql.specs.Words.{IsRead}
 use Rattle.alter_cli.specs.FirstForm.{IsSpelled, HasItsName, rows_of}
 
 -- the text was read exactly so
@@ -84,7 +82,7 @@ next_table (table ∷ tables) (other ∷ front) row behind same spelled =
 
 -- the row was read as a table exactly so
 abbrev pub OnlyTable : SchemaRow → Option Table → Type 0
-OnlyTable row read = (table : Table) → table.row ≡ row → IsSpelled table → IsRead {E = AllocError} (λ r. r ≡ table) (Ok read)
+OnlyTable row read = (table : Table) → table.row ≡ row → IsSpelled table → IsSomeAnd read (λ r. r ≡ table)
 
 -- the table that was read is the next of them
 pub first_more : (rows so_far : List SchemaRow) (row : SchemaRow) (behind : List SchemaRow) (tables : List Table) (read : Option Table) (table : Table)
@@ -92,7 +90,7 @@ pub first_more : (rows so_far : List SchemaRow) (row : SchemaRow) (behind : List
     → AreFirst rows (so_far ++ row ∷ []) (tables ++ table ∷ [])
 first_more rows so_far row behind tables read table first split only some = λ list same spelled.
     let next = next_table list so_far row behind (same ∙ sym split) spelled in
-    let is : table ≡ next.table = subst (λ r. IsRead {E = AllocError} (λ x. x ≡ next.table) (Ok r)) some (only next.table next.has_row next.spelled) in
+    let is : table ≡ next.table = subst (λ r. IsSomeAnd r (λ x. x ≡ next.table)) some (only next.table next.has_row next.spelled) in
     ap (λ n. take n list) (length-append so_far (row ∷ [])) ∙ next.next ∙ ap (λ (l : List Table). l ++ next.table ∷ []) (first list same spelled)
     ∙ ap (λ t. tables ++ t ∷ []) (sym is)
 
@@ -101,7 +99,7 @@ pub no_tables : (rows so_far : List SchemaRow) (row : SchemaRow) (behind : List 
     → so_far ++ row ∷ behind ≡ rows → OnlyTable row read → read ≡ None → rows_of list ≡ rows → AllByRecursion IsSpelled list → ⊥
 no_tables rows so_far row behind read list split only none same spelled =
     let next = next_table list so_far row behind (same ∙ sym split) spelled in
-    subst (λ r. IsRead {E = AllocError} (λ x. x ≡ next.table) (Ok r)) none (only next.table next.has_row next.spelled)
+    subst (λ r. IsSomeAnd r (λ x. x ≡ next.table)) none (only next.table next.has_row next.spelled)
 
 -- the first ones are all
 pub first_all : (rows : List SchemaRow) (tables list : List Table) → AreFirst rows rows tables → rows_of list ≡ rows → AllByRecursion IsSpelled list

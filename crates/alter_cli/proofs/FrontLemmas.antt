@@ -1,6 +1,5 @@
 -- What was read of page 1 of the files.
-use Rattle.std.proofs.Common.{◌≡◌, ◌≤◌, ◌<◌, ℕ, ◌+◌, ◌-◌, ◌^◌, ◌*◌, ◌↔◌, Bool, true, IsTrue, Option, Some, None, Ok, Vec, Global, List, [], ◌++◌, length, get_or, take, ◌∙◌, ap, subst, arith}
-use Rattle.std.specs.declared.alloc.AllocError.{AllocError}
+use Rattle.std.proofs.Common.{◌≡◌, ◌≤◌, ◌<◌, ℕ, ◌+◌, ◌-◌, ◌^◌, ◌*◌, ◌↔◌, Bool, true, IsTrue, Option, Some, None, Vec, Global, List, [], ◌++◌, length, get_or, take, ◌∙◌, ap, subst, arith, IsSomeAnd}
 use Rattle.std.specs.List.{AllByRecursion}
 use Rattle.alter_disk.specs.declared.disk.Disk.{Ghosts}
 use Rattle.alter_disk.specs.Files.{Files}
@@ -8,7 +7,6 @@ use Rattle.alter_disk.specs.Changes.{IfTold}
 use Rattle.alter_disk.specs.Rest.{KeepsRest}
 use Rattle.alter_disk.specs.Uses.{OnlyReads}
 use Rattle.schema_rows.specs.declared.schema.SchemaRow.{SchemaRow}
-use Rattle.plain_sql.specs.Words.{IsRead}
 use Rattle.alter_cli.specs.declared.file.First.{First}
 use Rattle.alter_cli.specs.declared.header.Sizes.{Sizes}
 use Rattle.alter_cli.specs.Header.{IsHeader}
@@ -21,12 +19,12 @@ use Rattle.common_laws.proofs.Each.{all_more}
 -- page 1 was read exactly so
 abbrev pub OnlyRows : List ℕ → ℕ → Option (Vec SchemaRow Global) → Type 0
 OnlyRows page usable read = (list : List SchemaRow) → AllByRecursion (λ row. row.root < 2 ^ 31) list → HoldsRows page usable list
-    → IsRead {E = AllocError} (λ rows. rows.items ≡ list) (Ok read)
+    → IsSomeAnd read (λ rows. rows.items ≡ list)
 
 -- page 1 of the files is read so
 abbrev pub OnlyHeld : Files → Option (Vec SchemaRow Global) → Type 0
 OnlyHeld files read = (list : List SchemaRow) → AllByRecursion (λ row. row.root < 2 ^ 31) list → HasFirstPage files list
-    → IsRead {E = AllocError} (λ rows. rows.items ≡ list) (Ok read)
+    → IsSomeAnd read (λ rows. rows.items ≡ list)
 
 -- the two lengths, each told by its call
 pub lengths_told : (told now : Option Files) (journal db : ℕ) → now ≡ told → IfTold told (λ files. journal ≡ length files.journal)
@@ -81,14 +79,14 @@ pub as_first_none : (told : Option Files) (read : Option (Vec SchemaRow Global))
     → IfTold told (OnlyFirstPage None)
 as_first_none None read none only = tt
 as_first_none (Some files) read none only = λ rows small has.
-    subst (λ r. IsRead {E = AllocError} (λ (x : Vec SchemaRow Global). x.items ≡ rows) (Ok r)) none (only rows small has)
+    subst (λ r. IsSomeAnd r (λ (x : Vec SchemaRow Global). x.items ≡ rows)) none (only rows small has)
 
 -- where rows were read
 pub as_first_some : (told : Option Files) (read : Option (Vec SchemaRow Global)) (first : First) → read ≡ Some first.rows
     → IfTold told (λ files. OnlyHeld files read) → IfTold told (OnlyFirstPage (Some first))
 as_first_some None read first some only = tt
 as_first_some (Some files) read first some only = λ rows small has.
-    subst (λ r. IsRead {E = AllocError} (λ (x : Vec SchemaRow Global). x.items ≡ rows) (Ok r)) some (only rows small has)
+    subst (λ r. IsSomeAnd r (λ (x : Vec SchemaRow Global). x.items ≡ rows)) some (only rows small has)
 
 -- a call that tells a length only reads
 pub only_reads : {D : Type 0} (disk : Ghosts D) (a b : D) → disk.files b ≡ disk.files a → KeepsRest disk.label disk.called disk.opened disk.write_faults a b

@@ -1,11 +1,9 @@
 -- What was read of a file is its image, and what was not read is the image of none.
-use Rattle.std.proofs.Common.{◌≡◌, ◌≤◌, ◌<◌, ℕ, ◌-◌, ◌^◌, ◌*◌, ◌↔◌, true, false, IsTrue, Option, Some, None, IsSomeAnd, Ok, Vec, Global, List, [], ◌∷◌, length, take, refl, sym, ◌∙◌, ap, subst, arith, AllPairs}
-use Rattle.std.specs.declared.alloc.AllocError.{AllocError}
+use Rattle.std.proofs.Common.{◌≡◌, ◌≤◌, ◌<◌, ℕ, ◌-◌, ◌^◌, ◌*◌, ◌↔◌, true, false, IsTrue, Option, Some, None, IsSomeAnd, Vec, Global, List, [], ◌∷◌, length, take, refl, sym, ◌∙◌, ap, subst, arith, AllPairs}
 use Rattle.std.specs.List.{AllByRecursion, slice_get}
 use Rattle.alter_disk.specs.Files.{Files}
 use Rattle.alter_disk.specs.Changes.{IfTold}
 use Rattle.schema_rows.specs.declared.schema.SchemaRow.{SchemaRow}
-use Rattle.plain_sql.specs.Words.{IsRead}
 use Rattle.alter_cli.specs.declared.header.Sizes.{Sizes}
 use Rattle.alter_cli.specs.declared.file.First.{First}
 use Rattle.alter_cli.specs.declared.table.Table.{Table}
@@ -103,11 +101,14 @@ unserved_first None only = tt
 unserved_first (Some files) only = λ image opens.
     only (rows_of opens.tables) (small_roots files image opens.tables opens.files opens.form) (front_of files image opens.tables opens.files opens.form)
 
+-- what is so of no file whose page 1 was read, of which it is the only one
+abbrev pub IsUnservedBy : First → Files → Type 0
+IsUnservedBy first files = IsFirstPage files first → OnlyFirstPage (Some first) files → AreUnserved files
+
 -- the rows that were read are not apart
-pub unserved_apart : (told : Option Files) (first : First) → IfTold told (OnlyFirstPage (Some first)) → (AllPairs AreApart first.rows.items → ⊥)
-    → IfTold told AreUnserved
-unserved_apart None first only none = tt
-unserved_apart (Some files) first only none = λ image opens.
+pub unserved_apart : (told : Option Files) (first : First) → (AllPairs AreApart first.rows.items → ⊥) → IfTold told (IsUnservedBy first)
+unserved_apart None first none = tt
+unserved_apart (Some files) first none = λ is only image opens.
     none (subst (λ (l : List SchemaRow). AllPairs AreApart l) (sym (rows_read files image first opens only)) opens.form.stored.apart)
 
 -- whether the rows have roots is whether the roots are there and empty
@@ -115,40 +116,53 @@ abbrev pub HaveRoots : Sizes → List SchemaRow → Type 0 → Files → Type 0
 HaveRoots sizes rows Have files = sizes.count * sizes.page ≤ length files.db → Have ↔ AllByRecursion (λ row. HasEmptyRoot files sizes row.root) rows
 
 -- the rows that were read have no roots
-pub unserved_roots : (told now : Option Files) (first : First) → now ≡ told
-    → IfTold told (λ files. IsFirstPage files first) → IfTold told (OnlyFirstPage (Some first))
-    → IfTold now (HaveRoots first.sizes first.rows.items (IsTrue false)) → IfTold told AreUnserved
-unserved_roots None now first same front only roots = tt
-unserved_roots (Some files) now first same front only roots = λ image opens.
+pub unserved_roots : (told : Option Files) (first : First) → IfTold told (HaveRoots first.sizes first.rows.items (IsTrue false))
+    → IfTold told (IsUnservedBy first)
+unserved_roots None first roots = tt
+unserved_roots (Some files) first roots = λ page only image opens.
     let tables = opens.tables in
-    let is = subst (λ t. IfTold t (HaveRoots first.sizes first.rows.items (IsTrue false))) same roots (all_within files first.sizes front.has.header front.sized) in
+    let is = roots (all_within files first.sizes page.has.header page.sized) in
     let top = first_of files image tables opens.files opens.form in
     let empty = all_weaker (HasRoot image) (λ row. HasEmptyRoot files first.sizes row.root) (rows_of tables)
-    (λ row root. empty_root files image first.sizes row opens.files top front.sized root) opens.form.stored.rooted in
+    (λ row root. empty_root files image first.sizes row opens.files top page.sized root) opens.form.stored.rooted in
     let rows = sym (rows_read files image first opens only) in
     false≢true (is.1 (subst (λ (l : List SchemaRow). AllByRecursion (λ row. HasEmptyRoot files first.sizes row.root) l) rows empty))
 
 -- the text of a row that was read is none that is served
-pub unserved_text : (told : Option Files) (first : First) (read : Option (Vec Table Global)) → read ≡ None → IfTold told (OnlyFirstPage (Some first))
+pub unserved_text : (told : Option Files) (first : First) (read : Option (Vec Table Global)) → read ≡ None
     → ((list : List Table) → rows_of list ≡ first.rows.items → AllByRecursion IsSpelled list
-    → IsRead {E = AllocError} (λ tables. tables.items ≡ list) (Ok read))
-    → IfTold told AreUnserved
-unserved_text None first read none only texts = tt
-unserved_text (Some files) first read none only texts = λ image opens.
-    subst (λ r. IsRead {E = AllocError} (λ (x : Vec Table Global). x.items ≡ opens.tables) (Ok r)) none
+    → IsSomeAnd read (λ tables. tables.items ≡ list))
+    → IfTold told (IsUnservedBy first)
+unserved_text None first read none texts = tt
+unserved_text (Some files) first read none texts = λ page only image opens.
+    subst (λ r. IsSomeAnd r (λ (x : Vec Table Global). x.items ≡ opens.tables)) none
     (texts opens.tables (sym (rows_read files image first opens only)) opens.form.spelled)
 
+-- page 1 was read, and the form is none, behind an opening
+pub unserved_told : (told now later : Option Files) (first : First) → now ≡ told → later ≡ now → IfTold now (λ files. IsFirstPage files first)
+    → IfTold now (OnlyFirstPage (Some first)) → IfTold later (IsUnservedBy first) → IfTold told AreUnserved
+unserved_told None now later first same kept page only none = tt
+unserved_told (Some files) now later first same kept page only none =
+    subst (λ t. IfTold t (IsUnservedBy first)) (kept ∙ same) none (subst (λ t. IfTold t (λ f. IsFirstPage f first)) same page)
+    (subst (λ t. IfTold t (OnlyFirstPage (Some first))) same only)
+
+-- page 1 was read, and the form is this, behind an opening
+pub found_told : (told now later : Option Files) (first : First) (form : Form) → now ≡ told → later ≡ now → IfTold now (λ files. IsFirstPage files first)
+    → IfTold later (λ files. IsFirstPage files first → AreOfForm files form) → IfTold told (λ files. AreOfForm files form)
+found_told None now later first form same kept page found = tt
+found_told (Some files) now later first form same kept page found =
+    subst (λ t. IfTold t (λ f. IsFirstPage f first → AreOfForm f form)) (kept ∙ same) found (subst (λ t. IfTold t (λ f. IsFirstPage f first)) same page)
+
 -- all that was read is the form of the image of the files
-pub form_found : (told now : Option Files) (first : First) (form : Form) → now ≡ told → form.sizes ≡ first.sizes → form.page ≡ first.page.items
-    → IfTold told (λ files. IsFirstPage files first)
-    → IfTold now (HaveRoots first.sizes first.rows.items (IsTrue true)) → AllPairs AreApart first.rows.items
+pub form_found : (told : Option Files) (first : First) (form : Form) → form.sizes ≡ first.sizes → form.page ≡ first.page.items
+    → IfTold told (HaveRoots first.sizes first.rows.items (IsTrue true)) → AllPairs AreApart first.rows.items
     → rows_of form.tables.items ≡ first.rows.items → AllByRecursion IsSpelled form.tables.items
-    → IfTold told (λ files. AreOfForm files form)
-form_found None now first form same s p front roots apart rows spelled = tt
-form_found (Some files) now first form same s p front roots apart rows spelled =
+    → IfTold told (λ files. IsFirstPage files first → AreOfForm files form)
+form_found None first form s p roots apart rows spelled = tt
+form_found (Some files) first form s p roots apart rows spelled = λ front.
     let tables = form.tables.items in
     let has = has_image files front.has.journal front.has.header in
-    let is = subst (λ t. IfTold t (HaveRoots first.sizes first.rows.items (IsTrue true))) same roots (all_within files first.sizes front.has.header front.sized) in
+    let is = roots (all_within files first.sizes front.has.header front.sized) in
     let usable = ap usable_size (sym has.header) in
     record {
       image = image_of files;

@@ -1,14 +1,12 @@
 -- The cells of a page, and the rows that they hold.
-use Rattle.std.proofs.Common.{◌≡◌, ◌≤◌, ◌<◌, ℕ, zero, suc, ◌+◌, ◌^◌, true, Some, Ok, Option, None, List, [], ◌∷◌, ◌++◌, length, get_or, take, refl, sym, ◌∙◌, ap, subst, arith}
+use Rattle.std.proofs.Common.{◌≡◌, ◌≤◌, ◌<◌, ℕ, zero, suc, ◌+◌, ◌^◌, true, Some, Option, None, List, [], ◌∷◌, ◌++◌, length, get_or, take, refl, sym, ◌∙◌, ap, subst, arith, IsSomeAnd}
 use Rattle.std.proofs.lemmas.List.{take_all, take_more}
 use Rattle.std.specs.List.{AllByRecursion, slice_get}
-use Rattle.std.specs.declared.alloc.AllocError.{AllocError}
 use Rattle.page_cells.specs.declared.cell.Cell.{Cell}
 use Rattle.page_cells.specs.declared.cell.PageCells.{PageCells}
 use Rattle.page_cells.specs.Cells.{HasCells}
 use Rattle.page_cells.specs.Layout.{IsUsable}
 use Rattle.schema_rows.specs.declared.schema.SchemaRow.{SchemaRow}
-use Rattle.plain_sql.specs.Words.{IsRead}
 use Rattle.alter_cli.specs.FirstPage.{HoldsRow, HoldRows, IsOnPage, leaf_of}
 use Rattle.common_laws.proofs.Each.{all_from_get}
 
@@ -77,7 +75,7 @@ AreFirst page cells i rows = (list : List SchemaRow) → AllByRecursion (λ row.
 
 -- the cell was read exactly so
 abbrev pub OnlyRow : List ℕ → Cell → Option SchemaRow → Type 0
-OnlyRow page c read = (row : SchemaRow) → row.root < 2 ^ 31 → HoldsRow page c row → IsRead {E = AllocError} (λ r. r ≡ row) (Ok read)
+OnlyRow page c read = (row : SchemaRow) → row.root < 2 ^ 31 → HoldsRow page c row → IsSomeAnd read (λ r. r ≡ row)
 
 -- the row that was read is the next of them
 pub first_more : (page : List ℕ) (cells : List Cell) (i : ℕ) (d : Cell) (rows : List SchemaRow) (read : Option SchemaRow) (row : SchemaRow)
@@ -85,7 +83,7 @@ pub first_more : (page : List ℕ) (cells : List Cell) (i : ℕ) (d : Cell) (row
     → AreFirst page cells (i + 1) (rows ++ row ∷ [])
 first_more page cells i d rows read row first inside only some = λ list small held.
     let next = next_row page cells list i d held small inside in
-    let same : row ≡ next.row = subst (λ r. IsRead {E = AllocError} (λ x. x ≡ next.row) (Ok r)) some (only next.row next.small next.holds) in
+    let same : row ≡ next.row = subst (λ r. IsSomeAnd r (λ x. x ≡ next.row)) some (only next.row next.small next.holds) in
     next.next ∙ ap (λ (l : List SchemaRow). l ++ next.row ∷ []) (first list small held) ∙ ap (λ r. rows ++ r ∷ []) (sym same)
 
 -- a cell that holds no row
@@ -93,7 +91,7 @@ pub no_rows : (page : List ℕ) (cells : List Cell) (i : ℕ) (d : Cell) (read :
     → OnlyRow page (get_or cells i d) read → read ≡ None → AllByRecursion (λ row. row.root < 2 ^ 31) list → HoldRows page cells list → ⊥
 no_rows page cells i d read list inside only none small held =
     let next = next_row page cells list i d held small inside in
-    subst (λ r. IsRead {E = AllocError} (λ x. x ≡ next.row) (Ok r)) none (only next.row next.small next.holds)
+    subst (λ r. IsSomeAnd r (λ x. x ≡ next.row)) none (only next.row next.small next.holds)
 
 -- the first ones are all
 pub first_all : (page : List ℕ) (cells : List Cell) (i : ℕ) (rows list : List SchemaRow) → AreFirst page cells i rows → length cells ≤ i

@@ -1,6 +1,7 @@
 -- The first 100 bytes of a database file (fileformat2.html, "The Database Header").
 use Rattle.std.specs.Prelude.{◌≡◌, ◌≤◌, ◌<◌, ℕ, ◌+◌, ◌-◌, ◌*◌, ◌/◌, ◌%◌, ◌^◌, ◌==◌, Bool, not, ◌&&◌, ◌||◌, IsTrue, max, List, [], ◌∷◌, ◌++◌, take, drop, slice_index, codes, if◌then◌else◌}
 use Rattle.byteorder.specs.Endian.{big_number, big_bytes}
+use Rattle.alter_bytes.specs.Field.{overlaid}
 
 -- the big-endian number of n bytes at this offset
 abbrev pub number_at : ℕ → ℕ → List ℕ → ℕ
@@ -62,7 +63,7 @@ pub record IsHeader (header : List ℕ) (file_length : ℕ) : Type 0 where
 
 -- the header with a number of n bytes put at this offset
 abbrev pub put : ℕ → ℕ → ℕ → List ℕ → List ℕ
-put n at number header = take at header ++ big_bytes n number ++ drop (at + n) header
+put n at number header = overlaid header at (big_bytes n number)
 
 -- one more, wrapping at 2^32
 abbrev pub next : ℕ → ℕ

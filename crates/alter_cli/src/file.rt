@@ -1,5 +1,5 @@
 //! Reading a file that is served off its disk.
-ghost use Rattle.std.specs.Prelude.{◌≡◌, ◌≤◌, ◌+◌, ◌*◌, ◌^◌, ◌↔◌, length, take, drop, true, IsTrue, IfOk, IfSome, IfNone};
+ghost use Rattle.std.specs.Prelude.{◌≡◌, ◌≤◌, ◌+◌, ◌*◌, ◌^◌, ◌↔◌, length, take, drop, true, Some, IsTrue, IfOk, IfSome, IfNone};
 ghost use Rattle.std.specs.List.{AllByRecursion};
 ghost use Rattle.alter_disk.specs.Changes.{IfTold};
 ghost use Rattle.alter_cli.specs.Image.{Image};
@@ -66,15 +66,15 @@ fn read_bytes<D: Disk>(
 
 /// Page 1, its sizes and its rows.
 #[derive(Drop)]
-struct First {
-    sizes: Sizes,
-    page: Vec<u8>,
-    rows: Vec<SchemaRow>,
+pub struct First {
+    pub sizes: Sizes,
+    pub page: Vec<u8>,
+    pub rows: Vec<SchemaRow>,
 }
 
 /// Reads page 1 with its header and its rows, if there is no journal and they are those of a file that
 /// is served. Each byte is read once.
-fn read_first<D: Disk>(alloc: Global, disk: &mut D) -> Result<Option<First>, ReadFault>
+pub fn read_first<D: Disk>(alloc: Global, disk: &mut D) -> Result<Option<First>, ReadFault>
     requires { D.called disk.old ≡ true }
     ensures ready { IfOk result (λ read. IfSome read IsReadyFirst) }
     ensures found { IfOk result (λ read. IfSome read (λ first. IfTold (D.files disk.old) (λ files. IsFirstPage files first))) }
@@ -142,17 +142,22 @@ fn have_roots<D: Disk>(
     Ok(true)
 }
 
-/// Reads the file, if it is one that is served.
-pub fn read_form<D: Disk>(alloc: Global, disk: &mut D) -> Result<Option<Form>, ReadFault>
-    requires { D.called disk.old ≡ true }
+/// The form of the file whose page 1 was read, if the rows' roots and texts are those of a file that is
+/// served.
+pub fn form_of<D: Disk>(
+    alloc: Global,
+    disk: &mut D,
+    first: First,
+) -> Result<Option<Form>, ReadFault>
+    requires called { D.called disk.old ≡ true }
+    requires ready { IsReadyFirst first }
     ensures ready { IfOk result (λ read. IfSome read IsReady) }
-    ensures found { IfOk result (λ read. IfSome read (λ form. IfTold (D.files disk.old) (λ files. AreOfForm files form))) }
-    ensures unserved { IfOk result (λ read. IfNone read (IfTold (D.files disk.old) (λ files. (image : Image) → Opens files image → ⊥))) }
+    ensures found { IfOk result (λ read. IfSome read (λ form. IfTold (D.files disk.old) (λ files. IsFirstPage files first → AreOfForm files form))) }
+    ensures unserved { IfOk result (λ read. IfNone read (IfTold (D.files disk.old) (λ files.
+        IsFirstPage files first → OnlyFirstPage (Some first) files → (image : Image) → Opens files image → ⊥))) }
     ensures reads { HasRead D.Disk disk.old disk.new result }
 {
-    let Some(First { sizes, page, rows }) = read_first(alloc, disk)? else {
-        return Ok(None);
-    };
+    let First { sizes, page, rows } = first;
     if !are_apart(rows.as_slice()) || !have_roots(alloc, disk, &sizes, rows.as_slice())? {
         return Ok(None);
     }

@@ -22,6 +22,10 @@ use std::alloc::{AllocError, Global};
 /// The most columns of a table (limits.html, "Maximum Number Of Columns").
 const MAX_COLUMNS: usize = 2000;
 
+/// A table's leaf keeps a payload whole up to its usable bytes less so many (fileformat2.html, "B-tree
+/// Pages").
+const LOCAL_MARGIN: usize = 35;
+
 /// A file that is served: its page 1 and its tables, in the order of their rows.
 #[derive(Drop)]
 pub struct Form {
@@ -47,7 +51,7 @@ fn push_cell(
     // A rowid of 32 bits has a varint.
     prove!(row.rowid <= u32::MAX);
     let record = row.record(alloc)?;
-    if record.len() > usable - 35 {
+    if record.len() > usable - LOCAL_MARGIN {
         return Ok(false);
     }
     cells.push(row.cell(alloc)?)?;

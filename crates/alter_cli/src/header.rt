@@ -3,8 +3,7 @@ ghost use Rattle.std.specs.Prelude.{◌≡◌, ◌≤◌, ◌<◌, ◌+◌, ◌*
 ghost use Rattle.alter_cli.specs.Header as spec;
 ghost use Rattle.alter_cli.specs.Sizes.{HasSizes, AreSound};
 
-use alter_bytes::write_u32;
-use byteorder::{BigEndian, ByteOrder};
+use alter_bytes::{u16_at, u32_at, write_u32};
 
 /// The bytes of the header.
 pub const HEADER_LEN: usize = 100;
@@ -41,6 +40,9 @@ const INCREMENTAL_VACUUM_AT: usize = 64;
 /// "Write library version number and version-valid-for number".
 const VERSION_VALID_FOR_AT: usize = 92;
 
+/// The longest page in bytes ("Page Size").
+const MAX_PAGE_SIZE: u32 = 65536;
+
 /// The least usable bytes of a page ("Reserved bytes per page").
 const LEAST_USABLE: u32 = 480;
 
@@ -67,21 +69,13 @@ pub struct Sizes {
     pub count: u32,
 }
 
-/// A field of four bytes.
-fn u32_at(header: &[u8], at: usize) -> u32
-    requires { at + 4 ≤ length header.now }
-    ensures { result ≡ spec.number_at 4 at header.now }
-{
-    BigEndian::read_u32(&header[at..])
-}
-
 /// The page size in bytes; the field's 1 stands for 65536.
 fn page_size(header: &[u8]) -> u32
     requires { length header.now ≡ HEADER_LEN }
     ensures { result ≡ spec.page_size header.now }
 {
-    match BigEndian::read_u16(&header[PAGE_SIZE_AT..]) {
-        1 => 65536,
+    match u16_at(header, PAGE_SIZE_AT) {
+        1 => MAX_PAGE_SIZE,
         size => size as u32,
     }
 }
@@ -92,7 +86,7 @@ fn is_page_size(size: u32) -> bool
 {
     matches!(
         size,
-        512 | 1024 | 2048 | 4096 | 8192 | 16384 | 32768 | 65536
+        512 | 1024 | 2048 | 4096 | 8192 | 16384 | 32768 | MAX_PAGE_SIZE
     )
 }
 

@@ -1,13 +1,13 @@
 //! The pages of a file that is served: page 1 with the schema's rows, and empty tables.
-ghost use Rattle.std.specs.Prelude.{◌≡◌, ◌≤◌, ◌<◌, ◌+◌, ◌-◌, ◌^◌, ◌↔◌, ℕ, List, [], ◌∷◌, pos, true, length, take, drop, Some, None, IsTrue, IfOk, IfSome, IfNone};
+ghost use Rattle.std.specs.Prelude.{◌≡◌, ◌≤◌, ◌<◌, ◌+◌, ◌-◌, ◌^◌, ◌↔◌, ℕ, List, [], ◌∷◌, pos, true, length, take, drop, Some, None, IsTrue, IfOk, IfSome, IfNone, IsSomeAnd};
 ghost use Rattle.std.specs.List.{AllByRecursion};
+ghost use Rattle.common_laws.specs.Results.{AnyError, Yields};
 ghost use Rattle.page_cells.specs.Cells.{HasCells};
 ghost use Rattle.page_cells.specs.Layout.{IsUsable};
 ghost use Rattle.page_cells.specs.declared.cell.Cell.{Cell};
 ghost use Rattle.schema_rows.specs.Record.{IsRecord};
 ghost use Rattle.schema_rows.specs.Schema.{row_values};
 ghost use Rattle.schema_rows.specs.declared.schema.SchemaRow.{SchemaRow};
-ghost use Rattle.plain_sql.specs.Words.{IsRead};
 ghost use Rattle.alter_cli.specs.FirstPage.{HoldsRow, HoldRows, HoldsRows, IsEmptyTable, IsLocal, IsOnPage, leaf_of};
 ghost use Rattle.alter_cli.specs.Served.{IsShortRow};
 
@@ -31,7 +31,7 @@ fn first_cells(alloc: Global, page: &[u8], usable: usize) -> Result<Option<Vec<C
     requires { IsUsable usable (length page.now) }
     ensures found { IfOk result (λ read. IfSome read (λ c. HasCells page.now true usable (leaf_of c.items))) }
     ensures within { IfOk result (λ read. IfSome read (λ c. AllByRecursion (IsOnPage page.now) c.items)) }
-    ensures only { (list : List Cell) → HasCells page.now true usable (leaf_of list) → IsRead (λ read. read.items ≡ list) result }
+    ensures only { (list : List Cell) → HasCells page.now true usable (leaf_of list) → Yields AnyError (λ read. IsSomeAnd read (λ found. found.items ≡ list)) result }
 {
     match cells(alloc, page, true, usable) {
         Ok(found) => Ok(Some(found.cells.into_vec())),
@@ -59,7 +59,7 @@ fn row_of(alloc: Global, page: &[u8], cell: &Cell) -> Result<Option<SchemaRow>, 
     requires { IsOnPage page.now cell.now }
     ensures found { IfOk result (λ read. IfSome read (HoldsRow page.now cell.now)) }
     ensures short { IfOk result (λ read. IfSome read (IsShortRow page.now)) }
-    ensures only { (row : SchemaRow) → row.root < 2 ^ 31 → HoldsRow page.now cell.now row → IsRead (λ read. read ≡ row) result }
+    ensures only { (row : SchemaRow) → row.root < 2 ^ 31 → HoldsRow page.now cell.now row → Yields AnyError (λ read. IsSomeAnd read (λ found. found ≡ row)) result }
 {
     match local_row(page, cell) {
         Some((rowid, payload)) => read_schema_row(alloc, rowid, payload),
@@ -72,7 +72,7 @@ fn rows_of(alloc: Global, page: &[u8], cells: &[Cell]) -> Result<Option<Vec<Sche
     requires { AllByRecursion (IsOnPage page.now) cells.now }
     ensures found { IfOk result (λ read. IfSome read (λ rows. HoldRows page.now cells.now rows.items)) }
     ensures short { IfOk result (λ read. IfSome read (λ rows. AllByRecursion (IsShortRow page.now) rows.items)) }
-    ensures only { (list : List SchemaRow) → AllByRecursion (λ row. row.root < 2 ^ 31) list → HoldRows page.now cells.now list → IsRead (λ read. read.items ≡ list) result }
+    ensures only { (list : List SchemaRow) → AllByRecursion (λ row. row.root < 2 ^ 31) list → HoldRows page.now cells.now list → Yields AnyError (λ read. IsSomeAnd read (λ found. found.items ≡ list)) result }
 {
     let mut rows = Vec::new(alloc);
     for cell in cells {
@@ -93,7 +93,7 @@ pub fn read_rows(
     requires { IsUsable usable (length page.now) }
     ensures found { IfOk result (λ read. IfSome read (λ rows. HoldsRows page.now usable rows.items)) }
     ensures short { IfOk result (λ read. IfSome read (λ rows. AllByRecursion (IsShortRow page.now) rows.items)) }
-    ensures only { (list : List SchemaRow) → AllByRecursion (λ row. row.root < 2 ^ 31) list → HoldsRows page.now usable list → IsRead (λ read. read.items ≡ list) result }
+    ensures only { (list : List SchemaRow) → AllByRecursion (λ row. row.root < 2 ^ 31) list → HoldsRows page.now usable list → Yields AnyError (λ read. IsSomeAnd read (λ found. found.items ≡ list)) result }
 {
     match first_cells(alloc, page, usable)? {
         Some(cells) => rows_of(alloc, page, cells.as_slice()),

@@ -13,7 +13,7 @@ ghost use Rattle.alter_cli.specs.Outcome.{IsServed, is_done};
 ghost use Rattle.alter_cli.specs.Causes.{IsFrontTaken};
 ghost use Rattle.alter_cli.specs.Ending.{NoScript, NoForm, IsRunStop, NotRun, OfForm, RanEach, StoppedAt, left_by, carried, verdict_of, IsShort, IsTornBy};
 
-use crate::file::{ReadFault, read_form};
+use crate::file::{ReadFault, form_of, read_first};
 use crate::form::Form;
 use crate::plan::{Change, Plan};
 use crate::script_text::read_text;
@@ -65,7 +65,10 @@ pub fn open_form<D: Disk>(alloc: Global, disk: &mut D, name: &str) -> Result<For
     ensures reads { OnlyOpens D.Disk disk.old disk.new }
 {
     open(disk, name)?;
-    match read_form(alloc, disk)? {
+    let Some(first) = read_first(alloc, disk)? else {
+        return Err(Stop::Unserved);
+    };
+    match form_of(alloc, disk, first)? {
         Some(form) => Ok(form),
         None => Err(Stop::Unserved),
     }

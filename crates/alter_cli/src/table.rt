@@ -1,8 +1,8 @@
 //! A table of a file that is served.
-ghost use Rattle.std.specs.Prelude.{◌≡◌, ◌<◌, ◌≤◌, ◌^◌, ◌↔◌, List, codes, length, take, IsTrue, IfOk, IfSome};
+ghost use Rattle.std.specs.Prelude.{◌≡◌, ◌<◌, ◌≤◌, ◌^◌, ◌↔◌, List, codes, length, take, IsTrue, IfOk, IfSome, IsSomeAnd};
 ghost use Rattle.std.specs.List.{AllByRecursion};
+ghost use Rattle.common_laws.specs.Results.{AnyError, Yields};
 ghost use Rattle.sql_token.specs.Names.{folded};
-ghost use Rattle.plain_sql.specs.Words.{IsRead};
 ghost use Rattle.alter_cli.specs.FirstForm.{IsSpelled, HasItsName, rows_of};
 ghost use Rattle.alter_cli.specs.Step.{added, with_column};
 ghost use Rattle.alter_cli.specs.Served.{IsReadyTable};
@@ -43,7 +43,7 @@ fn has_its_name(name: &[u8], row: &SchemaRow) -> bool
 fn table_of(alloc: Global, row: SchemaRow) -> Result<Option<Table>, AllocError>
     ensures found { IfOk result (λ read. IfSome read (λ table. (table.row ≡ row) × IsSpelled table)) }
     ensures inside { IfOk result (λ read. IfSome read (λ table. table.columns_end ≤ length table.row.text)) }
-    ensures only { (table : Table) → table.row ≡ row → IsSpelled table → IsRead (λ read. read ≡ table) result }
+    ensures only { (table : Table) → table.row ≡ row → IsSpelled table → Yields AnyError (λ read. IsSomeAnd read (λ found. found ≡ table)) result }
 {
     let Some(
         TableText {
@@ -69,7 +69,7 @@ fn table_of(alloc: Global, row: SchemaRow) -> Result<Option<Table>, AllocError>
 pub fn tables_of(alloc: Global, rows: Vec<SchemaRow>) -> Result<Option<Vec<Table>>, AllocError>
     ensures found { IfOk result (λ read. IfSome read (λ tables. (rows_of tables.items ≡ rows.items) × AllByRecursion IsSpelled tables.items)) }
     ensures inside { IfOk result (λ read. IfSome read (λ tables. AllByRecursion (λ table. table.columns_end ≤ length table.row.text) tables.items)) }
-    ensures only { (list : List Table) → rows_of list ≡ rows.items → AllByRecursion IsSpelled list → IsRead (λ read. read.items ≡ list) result }
+    ensures only { (list : List Table) → rows_of list ≡ rows.items → AllByRecursion IsSpelled list → Yields AnyError (λ read. IsSomeAnd read (λ found. found.items ≡ list)) result }
 {
     let mut tables = Vec::new(alloc);
     for row in rows {
