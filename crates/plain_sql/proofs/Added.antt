@@ -11,7 +11,7 @@ use Rattle.sql_token.proofs.Inserted.{inserted, comma_at, word_behind, inserted_
 use Rattle.sql_token.proofs.Stands.{IsSimple}
 use Rattle.sql_token.specs.Fixed.{IsFixed, IsSign}
 use Rattle.plain_sql.specs.Words.{IsPlainName, IsPlainWord}
-use Rattle.plain_sql.specs.TableText.{ArePlain, IsColumn, AreColumns, SpellsTable, last_end}
+use Rattle.plain_sql.specs.TableText.{ArePlain, IsPlainColumn, AreColumns, SpellsTable, last_end}
 use Rattle.plain_sql.proofs.ColumnsLemmas.{IsMadeOf}
 use Rattle.common_laws.proofs.Each.{all_append, all_behind, all_before}
 
@@ -52,7 +52,7 @@ plain_kept text new (t ∷ tokens) same plain =
     ((plain.0.0, name_kept text new plain.0.0 t same.0 plain.0.1), plain_kept text new tokens same.1 plain.1)
 
 -- a column of the same bytes is a column of the same name
-column_kept : (text new : List ℕ) (tokens : List Token) (name : List ℕ) → AllByRecursion (IsSame text new) tokens → IsColumn text tokens name → IsColumn new tokens name
+column_kept : (text new : List ℕ) (tokens : List Token) (name : List ℕ) → AllByRecursion (IsSame text new) tokens → IsPlainColumn text tokens name → IsPlainColumn new tokens name
 column_kept text new tokens name same is =
     let all = subst (AllByRecursion (IsSame text new)) is.whole same in
     record {
@@ -144,7 +144,7 @@ plain_simple text [] plain = tt
 plain_simple text (t ∷ tokens) plain = (inl plain.0.1.kind, plain_simple text tokens plain.1)
 
 -- the tokens of a column are Words
-column_simple : (text : List ℕ) (tokens : List Token) (name : List ℕ) → IsColumn text tokens name → AllByRecursion (IsSimple text) tokens
+column_simple : (text : List ℕ) (tokens : List Token) (name : List ℕ) → IsPlainColumn text tokens name → AllByRecursion (IsSimple text) tokens
 column_simple text tokens name is = subst (AllByRecursion (IsSimple text)) (sym is.whole) (inl is.named.kind, plain_simple text is.others is.plain)
 
 -- the tokens of columns are Words and commas

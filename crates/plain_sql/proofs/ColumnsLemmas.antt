@@ -7,7 +7,7 @@ use Rattle.sql_token.specs.declared.keyword.Keyword.TheVariants.{Create, Table}
 use Rattle.sql_token.specs.Token.{span, AreTokens, AreTokensIn}
 use Rattle.sql_token.specs.Fixed.{IsFixed, IsSign}
 use Rattle.plain_sql.specs.Words.{IsPlain, IsPlainName}
-use Rattle.plain_sql.specs.TableText.{ArePlain, IsColumn, AreColumns, IsStop, IsBehindWords, BeginsColumn, IsFrame, SpellsTable, last_end}
+use Rattle.plain_sql.specs.TableText.{ArePlain, IsPlainColumn, AreColumns, IsBeyondWords, IsBehindWords, BeginsColumn, IsTableFrame, SpellsTable, last_end}
 use Rattle.common_laws.proofs.Each.{all_at, all_append, cut_one}
 use Rattle.common_laws.proofs.Lists.{last_apart, four_and_last}
 
@@ -16,11 +16,11 @@ pub sign_not_plain : (text sign : List ℕ) (token : Token) → IsSign text sign
 sign_not_plain text sign token is plain = let both : Op ≡ Word = sym is.kind ∙ plain.1.kind in cc
 
 -- the tokens of a column are words
-pub column_plain : (text : List ℕ) (tokens : List Token) (name : List ℕ) → IsColumn text tokens name → ArePlain text tokens
+pub column_plain : (text : List ℕ) (tokens : List Token) (name : List ℕ) → IsPlainColumn text tokens name → ArePlain text tokens
 column_plain text tokens name is = subst (ArePlain text) (sym is.whole) ((name, is.named), is.plain)
 
 -- a column has one name
-pub column_named : (text : List ℕ) (a b : List Token) (m n : List ℕ) → a ≡ b → IsColumn text a m → IsColumn text b n → m ≡ n
+pub column_named : (text : List ℕ) (a b : List Token) (m n : List ℕ) → a ≡ b → IsPlainColumn text a m → IsPlainColumn text b n → m ≡ n
 column_named text a b m n e is other =
     let fronts : is.first ∷ is.others ≡ other.first ∷ other.others = sym is.whole ∙ e ∙ other.whole in
     let same : is.first ≡ other.first = cc in
@@ -36,21 +36,21 @@ pub leads_at_first : (text : List ℕ) (tokens : List Token) → LeadsTo text to
 leads_at_first text tokens = record { found = λ more columns. columns; only = λ all columns. (all, refl, columns) }
 
 -- a column that nothing follows
-pub last_column : (text : List ℕ) (rest others : List Token) (name : List ℕ) → BeginsColumn text rest name others → others ≡ [] → IsColumn text rest name
+pub last_column : (text : List ℕ) (rest others : List Token) (name : List ℕ) → BeginsColumn text rest name others → others ≡ [] → IsPlainColumn text rest name
 last_column text rest others name begins none =
     let whole : rest ≡ begins.column = begins.whole ∙ ap (λ o. begins.column ++ o) none ∙ append-nil begins.column in
-    let P : List Token → Type 0 = λ t. IsColumn text t name in
+    let P : List Token → Type 0 = λ t. IsPlainColumn text t name in
     subst P (sym whole) begins.is_column
 
 -- a column, a comma and columns
 pub column_in_front : (text : List ℕ) (rest column next : List Token) (comma : Token) (name : List ℕ) (more : List (List ℕ)) → rest ≡ column ++ comma ∷ next
-    → IsColumn text column name → IsSign text (codes ",") comma → AreColumns text next more → AreColumns text rest (name ∷ more)
+    → IsPlainColumn text column name → IsSign text (codes ",") comma → AreColumns text next more → AreColumns text rest (name ∷ more)
 column_in_front text rest column next comma name [] whole is sign columns = absurd columns
 column_in_front text rest column next comma name (n ∷ ns) whole is sign columns = (column, comma, next, whole, is, sign, columns)
 
 -- the columns of a column, a comma and what follows
 pub columns_behind : (text : List ℕ) (rest column next : List Token) (comma : Token) (name : List ℕ) (all : List (List ℕ)) → rest ≡ column ++ comma ∷ next
-    → IsColumn text column name → IsSign text (codes ",") comma → AreColumns text rest all → (more : List (List ℕ)) × (all ≡ name ∷ more) × AreColumns text next more
+    → IsPlainColumn text column name → IsSign text (codes ",") comma → AreColumns text rest all → (more : List (List ℕ)) × (all ≡ name ∷ more) × AreColumns text next more
 columns_behind text rest column next comma name [] whole is sign columns = absurd columns
 columns_behind text rest column next comma name (n ∷ []) whole is sign columns =
     absurd (sign_not_plain text _ comma sign (all_at (IsPlain text) column comma next (subst (ArePlain text) whole (column_plain text rest n columns))))
@@ -75,7 +75,7 @@ leads_on text tokens rest others next names name comma leads begins cut sign =
     }
 
 -- the columns of one column
-pub columns_of_one : (text : List ℕ) (rest : List Token) (name : List ℕ) (all : List (List ℕ)) → IsColumn text rest name → AreColumns text rest all → all ≡ name ∷ []
+pub columns_of_one : (text : List ℕ) (rest : List Token) (name : List ℕ) (all : List (List ℕ)) → IsPlainColumn text rest name → AreColumns text rest all → all ≡ name ∷ []
 columns_of_one text rest name [] is columns = absurd columns
 columns_of_one text rest name (n ∷ []) is columns = ap (λ x. x ∷ []) (column_named text rest rest n name refl columns is)
 columns_of_one text rest name (n ∷ m ∷ ms) is (other, mark, behind, cut, was, marks, columns) =
@@ -95,20 +95,20 @@ leads_to_end_only text tokens rest others names name all leads begins none colum
 
 -- where no column is in front, there are no columns
 no_columns : (text : List ℕ) (rest : List Token) (all : List (List ℕ))
-    → ((column others : List Token) (name : List ℕ) → rest ≡ column ++ others → IsColumn text column name → ⊥) → AreColumns text rest all → ⊥
+    → ((column others : List Token) (name : List ℕ) → rest ≡ column ++ others → IsPlainColumn text column name → ⊥) → AreColumns text rest all → ⊥
 no_columns text rest [] none columns = columns
 no_columns text rest (n ∷ []) none columns = none rest [] n (sym (append-nil rest)) columns
 no_columns text rest (n ∷ m ∷ ms) none (other, mark, behind, cut, was, marks, columns) = none other (mark ∷ behind) n cut was
 
 -- the same, behind some columns
 pub leads_to_no_column : (text : List ℕ) (tokens rest : List Token) (names all : List (List ℕ)) → LeadsTo text tokens names rest
-    → ((column others : List Token) (name : List ℕ) → rest ≡ column ++ others → IsColumn text column name → ⊥) → AreColumns text tokens all → ⊥
+    → ((column others : List Token) (name : List ℕ) → rest ≡ column ++ others → IsPlainColumn text column name → ⊥) → AreColumns text tokens all → ⊥
 leads_to_no_column text tokens rest names all leads none columns =
     let (more, is, those) = leads.only all columns in no_columns text rest more none those
 
 -- where a column ends at neither a comma nor the end, there are no columns
 no_comma : (text : List ℕ) (rest column next : List Token) (token : Token) (name : List ℕ) (all : List (List ℕ)) → rest ≡ column ++ token ∷ next
-    → IsColumn text column name → (IsPlain text token → ⊥) → (IsSign text (codes ",") token → ⊥) → AreColumns text rest all → ⊥
+    → IsPlainColumn text column name → (IsPlain text token → ⊥) → (IsSign text (codes ",") token → ⊥) → AreColumns text rest all → ⊥
 no_comma text rest column next token name [] whole is stop other columns = columns
 no_comma text rest column next token name (n ∷ []) whole is stop other columns =
     stop (all_at (IsPlain text) column token next (subst (ArePlain text) whole (column_plain text rest n columns)))
@@ -123,7 +123,7 @@ pub leads_to_no_comma : (text : List ℕ) (tokens rest others next : List Token)
 leads_to_no_comma text tokens rest others next token names name all leads begins cut other columns =
     let (more, is, those) = leads.only all columns in
     let whole : rest ≡ begins.column ++ token ∷ next = begins.whole ∙ ap (λ o. begins.column ++ o) cut in
-    no_comma text rest begins.column next token name more whole begins.is_column (subst (IsStop text) cut begins.stop) other those
+    no_comma text rest begins.column next token name more whole begins.is_column (subst (IsBeyondWords text) cut begins.stop) other those
 
 -- the end of the last token
 pub last_end-at : (tokens : List Token) (i : ℕ) (d : Token) → i + 1 ≡ length tokens → (get_or tokens i d).end ≡ last_end tokens
@@ -154,7 +154,7 @@ column_begins text tokens others behind first name front named words = record {
 
 -- what the tokens of a table's text are
 pub record IsMadeOf (text : List ℕ) (create_word table_word title left : Token) (inside : List Token) (right : Token) (name : List ℕ) (columns : List (List ℕ)) (end : ℕ) : Type 0 where
-  pub frame : IsFrame text create_word table_word left right
+  pub frame : IsTableFrame text create_word table_word left right
   pub named : IsPlainName text title name
   pub are_columns : AreColumns text inside columns
   pub ends : end ≡ last_end inside

@@ -12,27 +12,27 @@ abbrev pub is_alike : List ℕ → List ℕ → Bool
 is_alike a b = pointwise nat_eq (folded a) (folded b)
 
 -- two names are not alike
-abbrev pub AreApart : List ℕ → List ℕ → Type 0
-AreApart a b = folded a ≢ folded b
+abbrev pub AreUnlike : List ℕ → List ℕ → Type 0
+AreUnlike a b = folded a ≢ folded b
 
 -- a first name that is alike decides
 pub any_alike-here : (a b : List ℕ) (bs : List (List ℕ)) → folded a ≡ folded b → list_any (is_alike a) (b ∷ bs) ≡ true
 any_alike-here a b bs same = ap (λ t. t || list_any (is_alike a) bs) ((bytes_decides (folded a) (folded b)).1 same)
 
 -- a first name that is not alike is passed over
-pub any_alike-further : (a b : List ℕ) (bs : List (List ℕ)) → AreApart a b → list_any (is_alike a) (b ∷ bs) ≡ list_any (is_alike a) bs
+pub any_alike-further : (a b : List ℕ) (bs : List (List ℕ)) → AreUnlike a b → list_any (is_alike a) (b ∷ bs) ≡ list_any (is_alike a) bs
 any_alike-further a b bs other =
     ap (λ t. t || list_any (is_alike a) bs) (false_from_ne_true (is_alike a b) (λ e. other ((bytes_decides (folded a) (folded b)).0 e)))
 
 -- where one of the later names is alike the first one, not all are apart
-pub alike_among : (xs rest : List (List ℕ)) (x : List ℕ) → xs ≡ x ∷ rest → list_any (is_alike x) rest ≡ true → AllPairs AreApart xs → ⊥
+pub alike_among : (xs rest : List (List ℕ)) (x : List ℕ) → xs ≡ x ∷ rest → list_any (is_alike x) rest ≡ true → AllPairs AreUnlike xs → ⊥
 alike_among xs rest x front some apart =
     let (k, y, below, at, same) = Any-from_list_any (is_alike x) rest some in
-    pairs_first AreApart xs rest x front apart k y below ((bytes_decides (folded x) (folded y)).0 same ∙ ap folded (sym at))
+    pairs_first AreUnlike xs rest x front apart k y below ((bytes_decides (folded x) (folded y)).0 same ∙ ap folded (sym at))
 
 -- a first name that is not alike any later one
-pub apart_in_front : (xs rest : List (List ℕ)) (x : List ℕ) → xs ≡ x ∷ rest → list_any (is_alike x) rest ≡ false → AllPairs AreApart rest → AllPairs AreApart xs
+pub apart_in_front : (xs rest : List (List ℕ)) (x : List ℕ) → xs ≡ x ∷ rest → list_any (is_alike x) rest ≡ false → AllPairs AreUnlike rest → AllPairs AreUnlike xs
 apart_in_front xs rest x front none apart =
-    pairs_in_front AreApart xs rest x front
+    pairs_in_front AreUnlike xs rest x front
     (λ k d below same. both_ways _ none (list_any_at (is_alike x) rest k d below ((bytes_decides (folded x) (folded _)).1 same)))
     apart

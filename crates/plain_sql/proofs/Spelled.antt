@@ -6,7 +6,7 @@ use Rattle.sql_token.specs.Form.{IsWord}
 use Rattle.sql_token.specs.Keyword.{spelling}
 use Rattle.sql_token.specs.Names.{folded}
 use Rattle.sql_token.specs.Token.{IsTokenAt, AreTokensIn}
-use Rattle.sql_token.proofs.Places.{range_length}
+use Rattle.common_laws.proofs.Lists.{range_length}
 use Rattle.sql_token.proofs.Stands.{word_form}
 use Rattle.plain_sql.specs.declared.script.Command.{Command}
 use Rattle.plain_sql.specs.Words.{IsPlainName, IsPlainWord}

@@ -17,7 +17,7 @@ abbrev pub ArePlain : List ℕ → List Token → Type 0
 ArePlain text tokens = AllByRecursion (IsPlain text) tokens
 
 -- a column of this name: its name, and the words of its type
-pub record IsColumn (text : List ℕ) (tokens : List Token) (name : List ℕ) : Type 0 where
+pub record IsPlainColumn (text : List ℕ) (tokens : List Token) (name : List ℕ) : Type 0 where
   pub first : Token
   pub others : List Token
   pub whole : tokens ≡ first ∷ others
@@ -27,10 +27,10 @@ pub record IsColumn (text : List ℕ) (tokens : List Token) (name : List ℕ) : 
 -- columns of these names, one at least, with a comma between each two
 abbrev pub AreColumns : List ℕ → List Token → List (List ℕ) → Type 0
 AreColumns text tokens [] = ⊥
-AreColumns text tokens (name ∷ []) = IsColumn text tokens name
+AreColumns text tokens (name ∷ []) = IsPlainColumn text tokens name
 AreColumns text tokens (name ∷ next ∷ names) =
     (column : List Token) × (comma : Token) × (others : List Token) × (tokens ≡ column ++ comma ∷ others)
-    × IsColumn text column name × IsSign text (codes ",") comma × AreColumns text others (next ∷ names)
+    × IsPlainColumn text column name × IsSign text (codes ",") comma × AreColumns text others (next ∷ names)
 
 -- the place behind the last of the tokens
 abbrev pub last_end : List Token → ℕ
@@ -61,27 +61,27 @@ IsTableReadAs name columns end result =
     Yields AnyError (λ read. IsSomeAnd read (λ table. (table.name ≡ name) × (table.columns ≡ columns) × (table.columns_end ≡ end))) result
 
 -- the four fixed tokens of a table's text
-pub record IsFrame (text : List ℕ) (create_word table_word left right : Token) : Type 0 where
+pub record IsTableFrame (text : List ℕ) (create_word table_word left right : Token) : Type 0 where
   pub creates : IsFixed text Create create_word
   pub table : IsFixed text Table table_word
   pub opens : IsSign text (codes "(") left
   pub closes : IsSign text (codes ")") right
 
 -- nothing follows, or first a token that is no word or one of SQL's
-abbrev pub IsStop : List ℕ → List Token → Type 0
-IsStop text [] = Unit {0}
-IsStop text (token ∷ tokens) = IsPlain text token → ⊥
+abbrev pub IsBeyondWords : List ℕ → List Token → Type 0
+IsBeyondWords text [] = Unit {0}
+IsBeyondWords text (token ∷ tokens) = IsPlain text token → ⊥
 
 -- the others are what stands behind all words in front that are none of SQL's
 pub record IsBehindWords (text : List ℕ) (tokens others : List Token) : Type 0 where
   pub words : List Token
   pub whole : tokens ≡ words ++ others
   pub plain : ArePlain text words
-  pub stop : IsStop text others
+  pub stop : IsBeyondWords text others
 
 -- a column of this name is in front of the others
 pub record BeginsColumn (text : List ℕ) (tokens : List Token) (name : List ℕ) (others : List Token) : Type 0 where
   pub column : List Token
   pub whole : tokens ≡ column ++ others
-  pub is_column : IsColumn text column name
-  pub stop : IsStop text others
+  pub is_column : IsPlainColumn text column name
+  pub stop : IsBeyondWords text others

@@ -3,7 +3,7 @@ ghost use Rattle.std.specs.Prelude.{◌≡◌, ◌≤◌, ◌↔◌, List, ℕ, 
 ghost use Rattle.std.specs.Option.{IsSomeAnd};
 ghost use Rattle.common_laws.specs.Results.{AnyError, Yields};
 ghost use Rattle.sql_token.specs.declared.token.Token.{Token};
-ghost use Rattle.plain_sql.specs.TableText.{SpellsTable, IsTableReadAs, IsFrame, AreColumns, IsColumn, BeginsColumn, IsBehindWords, last_end};
+ghost use Rattle.plain_sql.specs.TableText.{SpellsTable, IsTableReadAs, IsTableFrame, AreColumns, IsPlainColumn, BeginsColumn, IsBehindWords, last_end};
 
 use crate::names::Names;
 use crate::words::{plain_name, read_tokens};
@@ -51,7 +51,7 @@ pub fn read_table(alloc: Global, text: &[u8]) -> Result<Option<TableText>, Alloc
 
 /// Whether these are the fixed tokens of a table's text.
 fn is_frame(text: &[u8], create: &Token, table: &Token, left: &Token, right: &Token) -> bool
-    ensures { IsTrue result ↔ IsFrame text.now create.now table.now left.now right.now }
+    ensures { IsTrue result ↔ IsTableFrame text.now create.now table.now left.now right.now }
 {
     is_fixed(text, Keyword::Create, create)
         && is_fixed(text, Keyword::Table, table)
@@ -94,7 +94,7 @@ fn read_columns(alloc: Global, text: &[u8], tokens: &[Token]) -> Result<Option<N
 /// The name of the column in front, and what stands behind the column.
 fn read_column<'a>(text: &'a [u8], tokens: &'a [Token]) -> Option<(&'a [u8], &'a [Token])>
     ensures found { IfSome result (λ read. BeginsColumn text.now tokens.now read.0.now read.1.now) }
-    ensures none { IfNone result ((column others : List Token) (name : List ℕ) → tokens.now ≡ column ++ others → IsColumn text.now column name → ⊥) }
+    ensures none { IfNone result ((column others : List Token) (name : List ℕ) → tokens.now ≡ column ++ others → IsPlainColumn text.now column name → ⊥) }
 {
     let [first, others @ ..] = tokens else {
         return None;

@@ -16,8 +16,8 @@ use Rattle.sql_token.proofs.Fronts.{Longest, IsFront, TellsLength, Suits, led, s
 use Rattle.sql_token.proofs.Runs.{Run, run_of, run_exact}
 use Rattle.sql_token.proofs.Quotes.{closing_len-other, closing_len-double, closing_len-single, counted_on}
 
-abbrev is_sign : ℕ → ℕ → Bool
-is_sign sign b = eqb b sign
+abbrev is_same_sign : ℕ → ℕ → Bool
+is_same_sign sign b = eqb b sign
 
 -- ---- the sign that closes
 
@@ -29,7 +29,7 @@ doubled-other sign b name apart = ap (λ l. l ++ doubled sign name) (cond-false 
 
 -- a doubled name with its closing sign in front, with the length of what is found behind it
 abbrev found_behind : ℕ → List ℕ → List ℕ → Option ℕ
-found_behind sign name rest = cond (begins (is_sign sign) rest) (option_map (λ n. length (doubled sign name) + 2 + n) (closing_len sign (drop 1 rest))) (Some (length (doubled sign name) + 1))
+found_behind sign name rest = cond (begins (is_same_sign sign) rest) (option_map (λ n. length (doubled sign name) + 2 + n) (closing_len sign (drop 1 rest))) (Some (length (doubled sign name) + 1))
 
 -- the parts of a choice, each by a function
 option_map-cond : (b : Bool) (f : ℕ → ℕ) (x y : Option ℕ) → option_map f (cond b x y) ≡ cond b (option_map f x) (option_map f y)
@@ -40,17 +40,17 @@ counted_found : (k : ℕ) (sign : ℕ) (name longer rest : List ℕ) → length 
 counted_found k sign name longer rest same =
     let two : k + (length (doubled sign name) + 2) ≡ length (doubled sign longer) + 2 = omega arith in
     let one : k + (length (doubled sign name) + 1) ≡ length (doubled sign longer) + 1 = omega arith in
-    option_map-cond (begins (is_sign sign) rest) (λ n. k + n) _ _
-    ∙ ap (λ o. cond (begins (is_sign sign) rest) o (Some (k + (length (doubled sign name) + 1)))) (counted_on (closing_len sign (drop 1 rest)) k (length (doubled sign name) + 2) ∙ ap (λ m. option_map (λ n. m + n) (closing_len sign (drop 1 rest))) two)
-    ∙ ap (λ m. cond (begins (is_sign sign) rest) (option_map (λ n. length (doubled sign longer) + 2 + n) (closing_len sign (drop 1 rest))) (Some m)) one
+    option_map-cond (begins (is_same_sign sign) rest) (λ n. k + n) _ _
+    ∙ ap (λ o. cond (begins (is_same_sign sign) rest) o (Some (k + (length (doubled sign name) + 1)))) (counted_on (closing_len sign (drop 1 rest)) k (length (doubled sign name) + 2) ∙ ap (λ m. option_map (λ n. m + n) (closing_len sign (drop 1 rest))) two)
+    ∙ ap (λ m. cond (begins (is_same_sign sign) rest) (option_map (λ n. length (doubled sign longer) + 2 + n) (closing_len sign (drop 1 rest))) (Some m)) one
 
 -- where a doubled name and its closing sign are in front, that sign closes, unless one more follows
 closing_behind : (sign : ℕ) (name rest : List ℕ) → closing_len sign (doubled sign name ++ sign ∷ rest) ≡ found_behind sign name rest
 closing_behind sign [] rest =
     ⊎_elim
-    (λ again. closing_len-double sign sign rest refl again ∙ sym (cond-true (begins (is_sign sign) rest) (option_map (λ n. 2 + n) (closing_len sign (drop 1 rest))) (Some 1) again))
-    (λ single. closing_len-single sign sign rest refl single ∙ sym (cond-false (begins (is_sign sign) rest) (option_map (λ n. 2 + n) (closing_len sign (drop 1 rest))) (Some 1) single))
-    (cases_Bool (begins (is_sign sign) rest))
+    (λ again. closing_len-double sign sign rest refl again ∙ sym (cond-true (begins (is_same_sign sign) rest) (option_map (λ n. 2 + n) (closing_len sign (drop 1 rest))) (Some 1) again))
+    (λ single. closing_len-single sign sign rest refl single ∙ sym (cond-false (begins (is_same_sign sign) rest) (option_map (λ n. 2 + n) (closing_len sign (drop 1 rest))) (Some 1) single))
+    (cases_Bool (begins (is_same_sign sign) rest))
 closing_behind sign (b ∷ name) rest =
     ⊎_elim
     (λ same.
@@ -73,7 +73,7 @@ pub record IsClosed (sign : ℕ) (bytes : List ℕ) (len : ℕ) : Type 0 where
   pub rest : List ℕ
   pub split : bytes ≡ doubled sign name ++ sign ∷ rest
   pub length_is : len ≡ length (doubled sign name) + 1
-  pub single : begins (is_sign sign) rest ≡ false
+  pub single : begins (is_same_sign sign) rest ≡ false
 
 abbrev ClosedIf : ℕ → List ℕ → Option ℕ → Type 0
 ClosedIf sign bytes None = Unit {0}
@@ -104,7 +104,7 @@ closed_double sign b c bytes (Some len) first second closed =
       single = closed.single;
     }
 
-closed_single : (sign b : ℕ) (bytes : List ℕ) → b ≡ sign → begins (is_sign sign) bytes ≡ false → ClosedIf sign (b ∷ bytes) (Some 1)
+closed_single : (sign b : ℕ) (bytes : List ℕ) → b ≡ sign → begins (is_same_sign sign) bytes ≡ false → ClosedIf sign (b ∷ bytes) (Some 1)
 closed_single sign b bytes same single = record { name = []; rest = bytes; split = ap (λ k. k ∷ bytes) same; length_is = refl; single = single }
 
 closing_closes : (sign : ℕ) (bytes : List ℕ) → ClosedIf sign bytes (closing_len sign bytes)
@@ -134,17 +134,17 @@ mapped_bound k (Some n) len same = let is : k + 2 + n ≡ len = cc in omega arit
 some_bound : (sign : ℕ) (name rest : List ℕ) (len : ℕ) → found_behind sign name rest ≡ Some len → length (doubled sign name) + 1 ≤ len
 some_bound sign name rest len found =
     ⊎_elim
-    (λ again. mapped_bound (length (doubled sign name)) (closing_len sign (drop 1 rest)) len (sym (cond-true (begins (is_sign sign) rest) _ _ again) ∙ found))
-    (λ single. let same : Some (length (doubled sign name) + 1) ≡ Some len = sym (cond-false (begins (is_sign sign) rest) _ _ single) ∙ found in let is : length (doubled sign name) + 1 ≡ len = cc in omega arith)
-    (cases_Bool (begins (is_sign sign) rest))
+    (λ again. mapped_bound (length (doubled sign name)) (closing_len sign (drop 1 rest)) len (sym (cond-true (begins (is_same_sign sign) rest) _ _ again) ∙ found))
+    (λ single. let same : Some (length (doubled sign name) + 1) ≡ Some len = sym (cond-false (begins (is_same_sign sign) rest) _ _ single) ∙ found in let is : length (doubled sign name) + 1 ≡ len = cc in omega arith)
+    (cases_Bool (begins (is_same_sign sign) rest))
 
 -- where no quote closes, one more sign stands behind each doubled name
-none_again : (sign : ℕ) (name rest : List ℕ) → found_behind sign name rest ≡ None → begins (is_sign sign) rest ≡ true
+none_again : (sign : ℕ) (name rest : List ℕ) → found_behind sign name rest ≡ None → begins (is_same_sign sign) rest ≡ true
 none_again sign name rest found =
     ⊎_elim
     (λ again. again)
-    (λ single. let same : Some (length (doubled sign name) + 1) ≡ None = sym (cond-false (begins (is_sign sign) rest) _ _ single) ∙ found in absurd (cc))
-    (cases_Bool (begins (is_sign sign) rest))
+    (λ single. let same : Some (length (doubled sign name) + 1) ≡ None = sym (cond-false (begins (is_same_sign sign) rest) _ _ single) ∙ found in absurd (cc))
+    (cases_Bool (begins (is_same_sign sign) rest))
 
 -- ---- a quote of a kind
 
@@ -152,7 +152,7 @@ none_again sign name rest found =
 pub record IsBetween (kind : TokenKind) (class : Class) (sign : ℕ) : Type 0 where
   pub named : (other : TokenKind) (tail : List ℕ) → Suits other class → IsForm other (sign ∷ tail) → (name : List ℕ) × (sign ∷ tail ≡ quoted sign name) × (other ≡ kind)
   pub forms : (name : List ℕ) → IsForm kind (quoted sign name)
-  pub spoils : (tail rest : List ℕ) → is_spoiled kind (sign ∷ tail) rest ≡ begins (is_sign sign) rest
+  pub spoils : (tail rest : List ℕ) → is_spoiled kind (sign ∷ tail) rest ≡ begins (is_same_sign sign) rest
 
 named_tail : (sign : ℕ) (bytes tail rest name : List ℕ) → bytes ≡ tail ++ rest → sign ∷ tail ≡ quoted sign name → bytes ≡ doubled sign name ++ sign ∷ rest
 named_tail sign bytes tail rest name split spelled =

@@ -5,6 +5,8 @@ use Rattle.std.specs.Cmp.Lexicographic.{pointwise, bytes_decides}
 use Rattle.std.specs.List.{list_all, list_any}
 use Rattle.std.proofs.lemmas.Bool.{and_parts, and_from, or_cases, cond-true, cond-false, cond_both, cases_Bool, cases_lt, leb-true, eqb-true, both_ways, agree_below_at}
 use Rattle.std.proofs.lemmas.List.{append_assoc, append_cancel_left, length-append}
+use Rattle.common_laws.proofs.Each.{in_list}
+use Rattle.common_laws.proofs.Lists.{same_front}
 use Rattle.sql_token.specs.declared.class.Class.{Class}
 use Rattle.sql_token.specs.declared.class.Class.TheVariants.{Letter, Digit, Point, Apostrophe, Sign, Bracket, Other}
 use Rattle.sql_token.specs.declared.token.TokenKind.{TokenKind}
@@ -44,17 +46,6 @@ NoFront bytes = (kind : TokenKind) (front rest : List ℕ) → bytes ≡ front +
 abbrev pub Tells : List ℕ → Option (TokenKind × ℕ) → Type 0
 Tells bytes None = NoFront bytes
 Tells bytes (Some found) = IsFront bytes found.0 found.1
-
--- fronts of one length are one
-pub same_front : (a b x y : List ℕ) → a ++ x ≡ b ++ y → length a ≡ length b → a ≡ b
-same_front [] [] x y split same = refl
-same_front [] (c ∷ b) x y split same = absurd (omega arith)
-same_front (c ∷ a) [] x y split same = absurd (omega arith)
-same_front (c ∷ a) (d ∷ b) x y split same =
-    let heads : c ≡ d = cc in
-    let tails : a ++ x ≡ b ++ y = cc in
-    let below : a ≡ b = same_front a b x y tails (omega arith) in
-    cc
 
 -- the longest form, spoiled by what stands behind it, leaves no token
 pub spoiled_none : (bytes : List ℕ) (kind : TokenKind) (len : ℕ) (best : IsBest bytes kind len) → is_spoiled kind best.front best.rest ≡ true → NoFront bytes
@@ -113,16 +104,6 @@ digit_apart b digit =
 pub class_of-digit : (b : ℕ) → is_ascii_digit b ≡ true → class_of b ≡ Digit
 class_of-digit b digit = cond-false (starts_word b) _ _ (digit_apart b digit) ∙ cond-true (is_ascii_digit b) _ _ digit
 
--- what is in a list that passes a test passes it
-in_list : (q : List ℕ → Bool) (bytes : List ℕ) (list : List (List ℕ)) → list_all q list ≡ true → list_any (λ item. pointwise nat_eq item bytes) list ≡ true → q bytes ≡ true
-in_list q bytes [] all one = absurd (cc)
-in_list q bytes (item ∷ list) all one =
-    let parts = and_parts (q item) (list_all q list) all in
-    ⊎_elim
-    (λ here. ap q (sym ((bytes_decides item bytes).0 here)) ∙ parts.0)
-    (in_list q bytes list parts.1)
-    (or_cases (pointwise nat_eq item bytes) (list_any (λ other. pointwise nat_eq other bytes) list) one)
-
 -- a test that each operator passes
 pub operator_passes : (q : List ℕ → Bool) (bytes : List ℕ) → list_all q operators ≡ true → is_operator bytes ≡ true → q bytes ≡ true
 operator_passes q bytes all one = in_list q bytes operators all one
@@ -174,6 +155,11 @@ not_empty Int form = omega (arith, form.0)
 not_empty Hex form = let e = form.spelled in absurd (cc)
 not_empty Float form = float_not_empty form
 not_empty Op form = absurd (cc)
+
+-- so a form has a byte
+pub form_positive : (kind : TokenKind) (front : List ℕ) → IsForm kind front → 0 < length front
+form_positive kind [] form = absurd (not_empty kind form)
+form_positive kind (b ∷ front) form = omega arith
 
 suits_quoted : (b : ℕ) (bytes name : List ℕ) → IsQuotedName (b ∷ bytes) name → Suits Quoted (class_of b)
 suits_quoted b bytes name form =

@@ -10,9 +10,9 @@ use Rattle.sql_token.specs.Byte.{is_blank, in_word, begins}
 use Rattle.sql_token.specs.Filler.{EndsBlock, BeginsComment, IsBlankAt, IsLineComment, IsBlockComment, IsGap, AreGaps, IsFiller}
 use Rattle.sql_token.specs.Form.{IsForm}
 use Rattle.sql_token.specs.Token.{span, is_spoiled, IsTokenAt, AreTokensIn}
-use Rattle.sql_token.proofs.Places.{range_length}
+use Rattle.common_laws.proofs.Lists.{range_length}
 use Rattle.sql_token.proofs.Words.{is_quote}
-use Rattle.sql_token.proofs.Stands.{is_sign, IsSimple, word_stands, word_ends, word_form, word_is_closed, spoiled_by, sign_stands, simple_cases}
+use Rattle.sql_token.proofs.Stands.{is_list_sign, IsSimple, word_stands, word_ends, word_form, word_is_closed, spoiled_by, sign_stands, simple_cases}
 
 -- ---- a text that grew at a place
 
@@ -255,7 +255,7 @@ token_length : (text : List ℕ) (t : Token) → IsTokenAt text t → t.end ≡ 
 token_length text t token = omega (arith, range_length text t.start t.end token.within, token.ascends)
 
 -- a sign up to the place stays
-sign_stays : (text new : List ℕ) (at more : ℕ) (t : Token) (b : ℕ) → Grows text new at more → t.end ≤ at → IsTokenAt text t → t.kind ≡ Op → is_sign b ≡ true
+sign_stays : (text new : List ℕ) (at more : ℕ) (t : Token) (b : ℕ) → Grows text new at more → t.end ≤ at → IsTokenAt text t → t.kind ≡ Op → is_list_sign b ≡ true
     → span text t ≡ b ∷ [] → IsTokenAt new t
 sign_stays text new at more t b g less token kind sign spelled =
     sign_stands new t b (drop t.end new) kind (omega (arith, token_length text t token, ap length spelled))

@@ -11,9 +11,10 @@ use Rattle.sql_token.specs.Filler.{IsGap, AreGaps, IsFiller}
 use Rattle.sql_token.specs.Form.{IsWord}
 use Rattle.sql_token.specs.Token.{span, IsTokenAt, AreTokensIn, AreTokens}
 use Rattle.sql_token.proofs.Fillers.{IsFiller_none, begins_comment}
-use Rattle.sql_token.proofs.Places.{range_at, split_at_token}
+use Rattle.common_laws.proofs.Lists.{range_at}
+use Rattle.sql_token.proofs.Places.{split_at_token}
 use Rattle.sql_token.proofs.Words.{is_quote}
-use Rattle.sql_token.proofs.Stands.{is_sign, IsSimple, first_byte, first_within, word_stands, word_ends, word_form, closed_by, sign_stands, simple_cases}
+use Rattle.sql_token.proofs.Stands.{is_list_sign, IsSimple, first_byte, first_within, word_stands, word_ends, word_form, closed_by, sign_stands, simple_cases}
 use Rattle.sql_token.proofs.Grown.{Grows, moved, word_stays, tokens_move, tokens_stay, spans_stay_by, spans_move_by, simple_stay, simple_move}
 
 -- ---- `, name` put in at a place
@@ -91,7 +92,7 @@ no_quote_at_token text t token simple quote =
     (λ word. word_no_quote (span text t) (drop t.end text) (word_form text t token word) (ap (begins is_quote) (sym split) ∙ quote))
     (λ sign.
     let first : is_quote sign.1.0 ≡ true = ap (begins is_quote) (sym (split ∙ ap (λ l. l ++ drop t.end text) sign.1.2)) ∙ quote in
-    let computed : is_sign 39 ≡ true = sym (ap is_sign (eqb-true sign.1.0 39 first)) ∙ sign.1.1 in
+    let computed : is_list_sign 39 ≡ true = sym (ap is_list_sign (eqb-true sign.1.0 39 first)) ∙ sign.1.1 in
     absurd (cc))
     (simple_cases text t simple)
 
@@ -101,14 +102,14 @@ begins_in p text at [] split passes = absurd (cc)
 begins_in p text at (b ∷ rest) split passes = ap p (first_byte text at b rest split) ∙ passes
 
 -- the same of what stands from a place on
-begins_within : (p : ℕ → Bool) (text : List ℕ) (at : ℕ) → begins p (drop at text) ≡ true → p (get_or text at 0) ≡ true
-begins_within p text at passes = begins_in p text at (drop at text) refl passes
+begins_with_one : (p : ℕ → Bool) (text : List ℕ) (at : ℕ) → begins p (drop at text) ≡ true → p (get_or text at 0) ≡ true
+begins_with_one p text at passes = begins_in p text at (drop at text) refl passes
 
 -- no quote begins what stands at the beginning of a list of simple tokens
 no_quote_before : (text ends : List ℕ) (from to : ℕ) → AreGaps text from ends to → (begins is_quote (drop to text) ≡ true → ⊥)
     → begins is_quote (drop from text) ≡ true → ⊥
 no_quote_before text [] from to gaps none quote = none (subst (λ k. begins is_quote (drop k text) ≡ true) gaps quote)
-no_quote_before text (end ∷ ends) from to gaps none quote = no_quote_at_gap text from end gaps.0 (begins_within is_quote text from quote)
+no_quote_before text (end ∷ ends) from to gaps none quote = no_quote_at_gap text from end gaps.0 (begins_with_one is_quote text from quote)
 
 -- no quote begins what stands in front of simple tokens, up to the end of the text
 no_quote_behind : (text : List ℕ) (from : ℕ) (behind : List Token) → AreTokensIn text from (length text) behind → AllByRecursion (IsSimple text) behind

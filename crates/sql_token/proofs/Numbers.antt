@@ -9,7 +9,7 @@ use Rattle.sql_token.specs.declared.class.Class.TheVariants.{Digit, Point}
 use Rattle.sql_token.specs.declared.token.TokenKind.{TokenKind}
 use Rattle.sql_token.specs.declared.token.TokenKind.TheVariants.{Word, Quoted, Str, Blob, Int, Hex, Float, Op}
 use Rattle.sql_token.specs.Byte.{in_word, is_x, is_e, is_plus_or_minus, begins}
-use Rattle.sql_token.specs.Form.{IsForm, IsRun, IsHex, IsFloat, IsExponent, unsigned, operators, is_operator}
+use Rattle.sql_token.specs.Form.{IsForm, IsRun, IsHex, IsFloat, IsExponent, unsigned, operators, is_operator, IsNumberKind}
 use Rattle.sql_token.specs.Scan.{class_of, whole_number, digits, marked, fraction_len, sign_len, exponent_len, hex_len, tail_len, decimal, number}
 use Rattle.sql_token.specs.Token.{is_spoiled}
 use Rattle.sql_token.proofs.Fronts.{IsBest, Tells, Suits, led, spoiled_none, operator_passes}
@@ -271,13 +271,6 @@ hex_decimal x bytes marked =
     (found.whole_is, omega (arith, found.tail_is, fraction, exponent))
 
 -- ---- the number that is found
-
--- the kinds of numbers
-abbrev pub IsNumberKind : TokenKind → Type 0
-IsNumberKind Int = Unit {0}
-IsNumberKind Hex = Unit {0}
-IsNumberKind Float = Unit {0}
-IsNumberKind _ = ⊥
 
 -- no number in front is longer, and only one kind has a number so long
 abbrev pub MostNumber : List ℕ → TokenKind → ℕ → Type 0

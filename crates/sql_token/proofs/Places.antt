@@ -4,6 +4,7 @@ use Rattle.std.specs.Char.{is_ascii_digit}
 use Rattle.std.specs.Prelude.{slice_range, IfNone}
 use Rattle.std.proofs.lemmas.Bool.{cond_both}
 use Rattle.std.proofs.lemmas.List.{length-append, length-drop, length-take-le, take-append-drop, drop-drop, drop_at, take_at, take_rest}
+use Rattle.common_laws.proofs.Lists.{range_at, range_length, rest_at}
 use Rattle.sql_token.specs.declared.class.Class.{Class}
 use Rattle.sql_token.specs.declared.class.Class.TheVariants.{Letter, Digit, Point, Apostrophe, Sign, Bracket, Other}
 use Rattle.sql_token.specs.declared.token.Token.{Token}
@@ -14,7 +15,7 @@ use Rattle.sql_token.specs.Filler.{BeginsComment}
 use Rattle.sql_token.specs.Form.{IsForm}
 use Rattle.sql_token.specs.Scan.{class_of, front_by, front, operator_len, quote_len, bracket_len}
 use Rattle.sql_token.specs.Token.{span, is_spoiled, IsTokenAt}
-use Rattle.sql_token.proofs.Fronts.{NoFront, IsFront, IsOfClass, Tells, TellsLength, is_of_class, not_empty, of_kind_tells}
+use Rattle.sql_token.proofs.Fronts.{NoFront, IsFront, IsOfClass, Tells, TellsLength, is_of_class, not_empty, of_kind_tells, form_positive}
 use Rattle.sql_token.proofs.Words.{word_or_blob_tells}
 use Rattle.sql_token.proofs.Enclosed.{string_tells, name_tells, bracket_tells}
 use Rattle.sql_token.proofs.Numbers.{digit_tells, point_tells}
@@ -44,23 +45,6 @@ unfolding front
 front_tells [] = none_in_nothing
 front_tells (b ∷ bytes) = tells_by (class_of b) b bytes refl (is_of_class b)
 
--- a front of what stands from a place on is a range of the text
-pub range_at : (text front rest : List ℕ) (at end : ℕ) → drop at text ≡ front ++ rest → end ≡ at + length front → slice_range text at end ≡ front
-range_at text front rest at end split is =
-    ap (take (end - at)) split ∙ take_at front rest (end - at) (omega arith)
-
-rest_at : (text front rest : List ℕ) (at end : ℕ) → drop at text ≡ front ++ rest → end ≡ at + length front → drop end text ≡ rest
-rest_at text front rest at end split is =
-    ap (λ k. drop k text) is ∙ sym (drop-drop (length front) at text) ∙ ap (drop (length front)) split ∙ drop_at front rest (length front) refl
-
-pub range_length : (text : List ℕ) (at end : ℕ) → end ≤ length text → length (slice_range text at end) ≡ end - at
-range_length text at end bound = length-take-le (end - at) (drop at text) (omega (arith, length-drop at text))
-
--- no form is empty
-front_positive : (kind : TokenKind) (front : List ℕ) → IsForm kind front → 0 < length front
-front_positive kind [] form = absurd (not_empty kind form)
-front_positive kind (b ∷ front) form = omega arith
-
 -- the token and what stands behind it
 pub split_at_token : (text : List ℕ) (t : Token) → IsTokenAt text t → drop t.start text ≡ span text t ++ drop t.end text
 split_at_token text t token =
@@ -74,7 +58,7 @@ token_from_front text at kind len within free found =
     let best = found.best in
     let range = range_at text best.front best.rest at (at + len) best.split (omega (arith, best.length_is)) in
     record {
-      ascends = omega (arith, best.length_is, front_positive kind best.front best.form);
+      ascends = omega (arith, best.length_is, form_positive kind best.front best.form);
       within = omega (arith, ap length best.split, length-append best.front best.rest, length-drop at text, best.length_is);
       form = subst (IsForm kind) (sym range) best.form;
       longest = λ other end longer bound form.

@@ -15,13 +15,14 @@ use Rattle.sql_token.specs.Scan.{class_of}
 use Rattle.sql_token.specs.Token.{span, is_spoiled, IsTokenAt}
 use Rattle.sql_token.proofs.Fronts.{IsFront, led, operator_passes}
 use Rattle.sql_token.proofs.Operators.{other_only}
-use Rattle.sql_token.proofs.Places.{range_at, range_length, split_at_token, token_from_front}
+use Rattle.common_laws.proofs.Lists.{range_at, range_length}
+use Rattle.sql_token.proofs.Places.{split_at_token, token_from_front}
 use Rattle.sql_token.proofs.Runs.{run_exact}
 use Rattle.sql_token.proofs.Words.{is_quote, word_front}
 
 -- the byte is one of the signs `(`, `)` and `,`
-abbrev pub is_sign : ℕ → Bool
-is_sign b = eqb b 40 || eqb b 41 || eqb b 44
+abbrev pub is_list_sign : ℕ → Bool
+is_list_sign b = eqb b 40 || eqb b 41 || eqb b 44
 
 -- the token is a Word, or one of the signs `(`, `)` and `,`
 abbrev pub IsSimple : List ℕ → Token → Type 0
@@ -141,7 +142,7 @@ closed_by (b ∷ c ∷ bytes) rest none = refl
 -- ---- signs
 
 -- what holds of each of the signs
-sign_cases : (P : ℕ → Type 0) (b : ℕ) → is_sign b ≡ true → P 40 → P 41 → P 44 → P b
+sign_cases : (P : ℕ → Type 0) (b : ℕ) → is_list_sign b ≡ true → P 40 → P 41 → P 44 → P b
 sign_cases P b sign left right comma =
     ⊎_elim
     (λ two. ⊎_elim
@@ -155,7 +156,7 @@ sign_cases P b sign left right comma =
 is_alone : List ℕ → Bool
 is_alone [] = true
 is_alone (b ∷ []) = true
-is_alone (b ∷ c ∷ bytes) = not (is_sign b)
+is_alone (b ∷ c ∷ bytes) = not (is_list_sign b)
 
 -- no operator but the sign itself begins with one of the signs
 all_alone : list_all is_alone operators ≡ true
@@ -163,21 +164,21 @@ unfolding is_alone
 all_alone = refl
 
 -- an operator that begins with one of the signs is the sign
-sign_alone : (b : ℕ) (tail : List ℕ) → is_sign b ≡ true → is_operator (b ∷ tail) ≡ true → tail ≡ []
+sign_alone : (b : ℕ) (tail : List ℕ) → is_list_sign b ≡ true → is_operator (b ∷ tail) ≡ true → tail ≡ []
 unfolding is_alone
 sign_alone b [] sign form = refl
-sign_alone b (c ∷ tail) sign form = absurd (both_ways (is_sign b) (not-true (is_sign b) (operator_passes is_alone (b ∷ c ∷ tail) all_alone form)) sign)
+sign_alone b (c ∷ tail) sign form = absurd (both_ways (is_list_sign b) (not-true (is_list_sign b) (operator_passes is_alone (b ∷ c ∷ tail) all_alone form)) sign)
 
 -- no other token than an operator begins with a sign
-sign_class : (b : ℕ) → is_sign b ≡ true → class_of b ≡ Other
+sign_class : (b : ℕ) → is_list_sign b ≡ true → class_of b ≡ Other
 sign_class b sign = sign_cases (λ k. class_of k ≡ Other) b sign refl refl refl
 
 -- a sign is an operator
-sign_form : (b : ℕ) → is_sign b ≡ true → is_operator (b ∷ []) ≡ true
+sign_form : (b : ℕ) → is_list_sign b ≡ true → is_operator (b ∷ []) ≡ true
 sign_form b sign = sign_cases (λ k. is_operator (k ∷ []) ≡ true) b sign refl refl refl
 
 -- the sign is the token in front of what begins with it
-sign_front : (b : ℕ) (rest : List ℕ) → is_sign b ≡ true → IsFront (b ∷ rest) Op 1
+sign_front : (b : ℕ) (rest : List ℕ) → is_list_sign b ≡ true → IsFront (b ∷ rest) Op 1
 sign_front b rest sign = record {
   best = record {
     front = b ∷ [];
@@ -194,16 +195,16 @@ sign_front b rest sign = record {
 }
 
 -- a sign stands where its byte does
-pub sign_stands : (text : List ℕ) (t : Token) (b : ℕ) (rest : List ℕ) → t.kind ≡ Op → t.end ≡ t.start + 1 → drop t.start text ≡ b ∷ rest → is_sign b ≡ true
+pub sign_stands : (text : List ℕ) (t : Token) (b : ℕ) (rest : List ℕ) → t.kind ≡ Op → t.end ≡ t.start + 1 → drop t.start text ≡ b ∷ rest → is_list_sign b ≡ true
     → IsTokenAt text t
 sign_stands text t b rest kind ends split sign =
     retoken text t Op t.start (t.start + 1) (sym kind) refl (sym ends)
     (token_from_front text t.start Op 1 (first_within text t.start b rest split)
-    (no_comment_by text t.start b is_sign (first_byte text t.start b rest split) sign refl refl)
+    (no_comment_by text t.start b is_list_sign (first_byte text t.start b rest split) sign refl refl)
     (subst (λ l. IsFront l Op 1) (sym split) (sign_front b rest sign)))
 
 -- a simple token is a Word, or the byte of a sign
-pub simple_cases : (text : List ℕ) (t : Token) → IsSimple text t → (t.kind ≡ Word) ⊎ ((t.kind ≡ Op) × ((b : ℕ) × (is_sign b ≡ true) × (span text t ≡ b ∷ [])))
+pub simple_cases : (text : List ℕ) (t : Token) → IsSimple text t → (t.kind ≡ Word) ⊎ ((t.kind ≡ Op) × ((b : ℕ) × (is_list_sign b ≡ true) × (span text t ≡ b ∷ [])))
 simple_cases text t simple =
     ⊎_elim
     (λ word. inl word)

@@ -13,7 +13,7 @@ use Rattle.sql_token.specs.Form.{IsForm, operators, is_operator}
 use Rattle.sql_token.specs.Scan.{class_of}
 use Rattle.sql_token.specs.Token.{span, IsTokenAt, AreTokensIn, FirstBad}
 use Rattle.sql_token.proofs.Fillers.{IsFree, IsFiller_none, fillers_meet, within_from}
-use Rattle.sql_token.proofs.Fronts.{Suits, suits, operator_passes, not_empty}
+use Rattle.sql_token.proofs.Fronts.{Suits, suits, operator_passes, not_empty, form_positive}
 use Rattle.sql_token.proofs.Places.{split_at_token, token_one}
 
 -- ---- no token begins with a blank
@@ -56,10 +56,6 @@ begins_at : (p : ℕ → Bool) (front rest : List ℕ) → 0 < length front → 
 begins_at p [] rest some = absurd (omega arith)
 begins_at p (b ∷ front) rest some = refl
 
-positive : (kind : TokenKind) (front : List ℕ) → IsForm kind front → 0 < length front
-positive kind [] form = absurd (not_empty kind form)
-positive kind (b ∷ front) form = omega arith
-
 -- a token begins where no blank and no comment does
 pub token_free : (text : List ℕ) (t : Token) → IsTokenAt text t → IsFree text t.start
 token_free text t token = record {
@@ -67,7 +63,7 @@ token_free text t token = record {
       let split = split_at_token text t token in
       let first : get_or text t.start 0 ≡ get_or (span text t ++ drop t.end text) 0 0 =
       ap (λ k. get_or text k 0) (sym (add-zero t.start)) ∙ sym (get_or-drop t.start text 0 0) ∙ ap (λ l. get_or l 0 0) split in
-      no_blank_form t.kind (span text t) token.form (sym (begins_at is_blank (span text t) (drop t.end text) (positive t.kind (span text t) token.form)) ∙ ap is_blank (sym first) ∙ blank.blank);
+      no_blank_form t.kind (span text t) token.form (sym (begins_at is_blank (span text t) (drop t.end text) (form_positive t.kind (span text t) token.form)) ∙ ap is_blank (sym first) ∙ blank.blank);
   no_comment = token.free_of_comment;
 }
 

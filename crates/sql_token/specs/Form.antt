@@ -100,3 +100,10 @@ IsForm Int bytes = IsRun is_ascii_digit bytes
 IsForm Hex bytes = IsHex bytes
 IsForm Float bytes = IsFloat bytes
 IsForm Op bytes = IsTrue (is_operator bytes)
+
+-- the kind is a number's: an Int, a Hex or a Float
+abbrev pub IsNumberKind : TokenKind → Type 0
+IsNumberKind Int = Unit {0}
+IsNumberKind Hex = Unit {0}
+IsNumberKind Float = Unit {0}
+IsNumberKind _ = ⊥

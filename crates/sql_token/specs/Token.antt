@@ -1,6 +1,5 @@
 -- The tokens of a text (lang_expr.html, lang_keywords.html): each is the longest at its place.
-use Rattle.std.specs.Prelude.{◌≡◌, ◌<◌, ◌≤◌, ℕ, Bool, false, not, ◌&&◌, List, [], ◌∷◌, length, drop, slice_range, ◌==◌, Result, Ok, Err, Vec, IsFalse}
-use Rattle.std.specs.declared.alloc.Global.{Global}
+use Rattle.std.specs.Prelude.{◌≡◌, ◌<◌, ◌≤◌, ℕ, Bool, false, not, ◌&&◌, List, [], ◌∷◌, length, drop, slice_range, ◌==◌, IsFalse}
 use Rattle.sql_token.specs.declared.token.TokenKind.{TokenKind}
 use Rattle.sql_token.specs.declared.token.TokenKind.TheVariants.{Word, Quoted, Str, Blob, Int, Hex, Float, Op}
 use Rattle.sql_token.specs.declared.token.Token.{Token}
@@ -56,19 +55,11 @@ pub record FirstBad (text : List ℕ) (at : ℕ) : Type 0 where
   pub free_of_comment : BeginsComment text at → ⊥
   pub no_token : (t : Token) → t.start ≡ at → IsTokenAt text t → ⊥
 
--- what an error says of the text, where memory may run out at any
-abbrev pub IsFaultOf : List ℕ → TokenError → Type 0
-IsFaultOf text (Memory fault) = Unit {0}
-IsFaultOf text (Bad at) = FirstBad text at
+-- the error is want of memory, or the fact holds of the place that it says
+abbrev pub OnBad : (ℕ → Type 0) → TokenError → Type 0
+OnBad P (Memory fault) = Unit {0}
+OnBad P (Bad at) = P at
 
--- the tokens are what was read, unless memory ran out
-abbrev pub IsReadAs : List Token → Result (Vec Token Global) TokenError → Type 0
-IsReadAs list (Ok read) = read.items ≡ list
-IsReadAs list (Err (Memory fault)) = Unit {0}
-IsReadAs list (Err (Bad at)) = ⊥
-
--- that place is what was answered, unless memory ran out
-abbrev pub IsBadAs : ℕ → Result (Vec Token Global) TokenError → Type 0
-IsBadAs at (Ok read) = ⊥
-IsBadAs at (Err (Memory fault)) = Unit {0}
-IsBadAs at (Err (Bad place)) = place ≡ at
+-- the error is want of memory
+abbrev pub IsMemory : TokenError → Type 0
+IsMemory error = OnBad (λ at. ⊥) error

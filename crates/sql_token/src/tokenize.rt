@@ -1,8 +1,9 @@
 //! Cuts a text into its tokens.
 
 ghost use Rattle.std.specs.Prelude.{◌≡◌, ◌≢◌, ◌<◌, ◌≤◌, ◌+◌, length, drop, List, ℕ, IfOk, IfErr, IfSome, IfNone};
+ghost use Rattle.common_laws.specs.Results.{Yields};
 ghost use Rattle.sql_token.specs.Filler.{IsFiller, IsGap, IsBlankAt, BeginsComment};
-ghost use Rattle.sql_token.specs.Token.{AreTokens, FirstBad, IsTokenAt, IsReadAs, IsFaultOf, IsBadAs};
+ghost use Rattle.sql_token.specs.Token.{AreTokens, FirstBad, IsMemory, IsTokenAt, OnBad};
 ghost use Rattle.sql_token.specs.declared.token.Token.{Token};
 
 use crate::filler::filler_end;
@@ -14,9 +15,9 @@ use std::alloc::Global;
 /// the first byte that is in no token, blank or comment.
 pub fn tokens(alloc: Global, text: &[u8]) -> Result<Vec<Token>, TokenError>
     ensures found { IfOk result (λ list. AreTokens text.now list.items) }
-    ensures only { (list : List Token) → AreTokens text.now list → IsReadAs list result }
-    ensures bad { IfErr result (λ error. IsFaultOf text.now error) }
-    ensures first { (at : ℕ) → FirstBad text.now at → IsBadAs at result }
+    ensures only { (list : List Token) → AreTokens text.now list → Yields IsMemory (λ read. read.items ≡ list) result }
+    ensures bad { IfErr result (OnBad (FirstBad text.now)) }
+    ensures first { (at : ℕ) → FirstBad text.now at → Yields (OnBad (λ place. place ≡ at)) (λ read. ⊥) result }
 {
     let mut list = Vec::new(alloc);
     let mut at = filler_end(text, 0);

@@ -1,7 +1,7 @@
 use Rattle.std.proofs.Common.{true, false, length, take, drop, ◌-◌, sym, ap, ◌∙◌, ◌≡◌}
 use Rattle.std.proofs.lemmas.Bool.{false≢true}
 use Rattle.std.specs.List.{list_any}
-use Rattle.plain_sql.proofs.NamesLemmas.{is_alike, AreApart, alike_among, apart_in_front}
+use Rattle.plain_sql.proofs.NamesLemmas.{is_alike, AreUnlike, alike_among, apart_in_front}
 use Rattle.common_laws.proofs.Lists.{first_and_rest}
 use Rattle.common_laws.proofs.Pairs.{pairs_behind}
 use Rattle.plain_sql.proofs.names.Names.are_apart.Goals as goal
@@ -23,5 +23,5 @@ loop-rest-preserved c =
     let none : list_any (is_alike c.name-item.result) others ≡ false =
     ap (λ n. list_any (is_alike n) others) (sym c.as_slice.ensures) ∙ sym c.any_alike.ensures ∙ c.if-any_alike.false in (
       λ apart. c.loop-rest.invariant.0 (apart_in_front names others c.name-item.result front none apart),
-      λ apart. pairs_behind AreApart names others c.name-item.result front (c.loop-rest.invariant.1 apart),
+      λ apart. pairs_behind AreUnlike names others c.name-item.result front (c.loop-rest.invariant.1 apart),
     )
