@@ -31,15 +31,15 @@ abbrev five : ℕ → ℕ → ℕ → ℕ → List ℕ → List ℕ
 five counter count cookie format header =
     put 4 92 counter (put 4 44 format (put 4 40 cookie (put 4 28 count (put 4 24 counter header))))
 
--- the k bytes from m are apart from the five fields
-record AreApart (k m : ℕ) : Type 0 where
+-- the k bytes from m are apart from each of the five fields
+record IsUntouched (k m : ℕ) : Type 0 where
   counter : IsApart 24 4 k m
   count : IsApart 28 4 k m
   cookie : IsApart 40 4 k m
   format : IsApart 44 4 k m
   version : IsApart 92 4 k m
 
-front : (k m : ℕ) → m + k ≤ 24 → AreApart k m
+front : (k m : ℕ) → m + k ≤ 24 → IsUntouched k m
 front k m h = record {
   counter = inl h;
   count = inl (omega arith);
@@ -48,7 +48,7 @@ front k m h = record {
   version = inl (omega arith);
 }
 
-middle : (k m : ℕ) → 32 ≤ m → m + k ≤ 40 → AreApart k m
+middle : (k m : ℕ) → 32 ≤ m → m + k ≤ 40 → IsUntouched k m
 middle k m low high = record {
   counter = inr (omega arith);
   count = inr low;
@@ -57,7 +57,7 @@ middle k m low high = record {
   version = inl (omega arith);
 }
 
-back : (k m : ℕ) → 48 ≤ m → m + k ≤ 92 → AreApart k m
+back : (k m : ℕ) → 48 ≤ m → m + k ≤ 92 → IsUntouched k m
 back k m low high = record {
   counter = inr (omega arith);
   count = inr (omega arith);
@@ -93,7 +93,7 @@ lengths counter count cookie format header len =
     }
 
 -- what is apart from the five fields stays
-stays : (counter count cookie format k m : ℕ) (header : List ℕ) → length header ≡ 100 → AreApart k m
+stays : (counter count cookie format k m : ℕ) (header : List ℕ) → length header ≡ 100 → IsUntouched k m
     → piece k m (five counter count cookie format header) ≡ piece k m header
 stays counter count cookie format k m header len apart =
     let l = lengths counter count cookie format header len in
@@ -157,17 +157,17 @@ pub length-committed : (count : ℕ) (header : List ℕ) → length header ≡ 1
 length-committed count header len =
     (lengths (next (number_at 4 24 header)) count (next (number_at 4 40 header)) (max (number_at 4 44 header) 3) header len).five
 
-piece-committed : (count k m : ℕ) (header : List ℕ) → length header ≡ 100 → AreApart k m
+piece-committed : (count k m : ℕ) (header : List ℕ) → length header ≡ 100 → IsUntouched k m
     → piece k m (committed count 3 header) ≡ piece k m header
 piece-committed count k m header len apart =
     stays (next (number_at 4 24 header)) count (next (number_at 4 40 header)) (max (number_at 4 44 header) 3) k m header len apart
 
-number-committed : (count n m : ℕ) (header : List ℕ) → length header ≡ 100 → AreApart n m
+number-committed : (count n m : ℕ) (header : List ℕ) → length header ≡ 100 → IsUntouched n m
     → number_at n m (committed count 3 header) ≡ number_at n m header
 number-committed count n m header len apart =
     same_number n m (committed count 3 header) header (piece-committed count n m header len apart)
 
-index-committed : (count m : ℕ) (header : List ℕ) → length header ≡ 100 → AreApart 1 m
+index-committed : (count m : ℕ) (header : List ℕ) → length header ≡ 100 → IsUntouched 1 m
     → slice_index (committed count 3 header) m ≡ slice_index header m
 index-committed count m header len apart =
     same_byte m (committed count 3 header) header (piece-committed count 1 m header len apart)

@@ -1,5 +1,6 @@
 -- A form stays ready.
 use Rattle.std.proofs.Common.{◌≡◌, ◌≤◌, ℕ, ◌+◌, ◌-◌, Bool, true, false, ◌&&◌, if◌then◌else◌, nat_le, List, [], ◌∷◌, ◌++◌, length, take, drop, Option, Some, None, codes, refl, sym, ◌∙◌, ap, subst, arith, length-append, length-drop}
+use Rattle.std.proofs.lemmas.Bool.{and_parts}
 use Rattle.std.proofs.lemmas.Bool.Decides.{nat_tests}
 use Rattle.std.proofs.lemmas.List.{length-take-le}
 use Rattle.std.specs.List.{AllByRecursion, AllPairs, find}
@@ -47,17 +48,12 @@ left_ready true command table ready small =
       text = omega (arith, whole, small);
     }
 
--- two tests that both pass
-split_and : (a b : Bool) → (a && b) ≡ true → (a ≡ true) × (b ≡ true)
-split_and true b e = (refl, e)
-split_and false b e = absurd cc
-
 -- so are all the tables, where their payloads are local
 left_all : (usable : ℕ) (command : Command) (tables : List Table) → usable ≤ 65536 → AllByRecursion IsReadyTable tables
     → are_local usable (rows_of (after command tables)) ≡ true → AllByRecursion IsReadyTable (after command tables)
 left_all usable command [] small ready local = tt
 left_all usable command (table ∷ tables) small ready local =
-    let both = split_and (nat_le (length (row_record (left_table (is_named command table) command table).row)) (usable - 35))
+    let both = and_parts (nat_le (length (row_record (left_table (is_named command table) command table).row)) (usable - 35))
     (are_local usable (rows_of (after command tables))) local in
     let fits : length (row_record (left_table (is_named command table) command table).row) ≤ 65536 = below _ _ both.0 small in
     (left_ready (is_named command table) command table ready.0 fits, left_all usable command tables small ready.1 both.1)
@@ -85,7 +81,7 @@ stays_ready form command (plans.Refused refusal) new ready is keeps taken = subs
 stays_ready form command (plans.Changed change) new ready is keeps taken =
     let tables = taken.tables ∙ is.2 in
     let room = built form.sizes.usable form.tables.items command (find (is_named command) form.tables.items) is.0 in
-    let local = (split_and (are_local form.sizes.usable (rows_of (after command form.tables.items))) _ room).0 in
+    let local = (and_parts (are_local form.sizes.usable (rows_of (after command form.tables.items))) _ room).0 in
     let small : form.sizes.usable ≤ 65536 = omega (arith, ready.sound.usable, ready.sound.page) in
     record {
       sound = subst AreSound (sym taken.sizes) ready.sound;

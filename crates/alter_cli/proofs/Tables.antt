@@ -1,7 +1,7 @@
 -- Lists of tables: which of them a command is about, and what it makes of them.
 use Rattle.std.proofs.Common.{◌≡◌, ◌<◌, ℕ, suc, ◌+◌, Bool, true, false, ◌||◌, ◌≤◌, nat_le, if◌then◌else◌, Some, None, List, [], ◌∷◌, ◌++◌, length, take, drop, get_or, AllPairs, refl, sym, ◌∙◌, ap, ap₂, subst, arith, length-append}
 use Rattle.std.proofs.Math.Seq.{get_or-append_seam}
-use Rattle.std.proofs.lemmas.Bool.{cond-false, cond-true, false_from_ne_true, le-leb, lt-leb}
+use Rattle.std.proofs.lemmas.Bool.{or_parts, cond-false, cond-true, false_from_ne_true, le-leb, lt-leb}
 use Rattle.std.proofs.lemmas.List.{drop_more, length-map, length-take-le, map-append, take-append-drop, take_at}
 use Rattle.std.proofs.lemmas.List.Folds.{find-append, list_any_more}
 use Rattle.std.specs.Cmp.Lexicographic.{bytes_decides}
@@ -15,11 +15,6 @@ use Rattle.alter_cli.specs.FirstForm.{AreApart, rows_of}
 use Rattle.alter_cli.specs.Plan.{HasPlace, IsPlaceOf, put_at}
 use Rattle.alter_cli.specs.Step.{added, after, has_column, is_built, is_named, refusal_at, refusal_of}
 use Rattle.alter_cli.specs.declared.verdict.Refusal.TheVariants.{ColumnTaken, NoSuchTable, TooManyColumns, Unbuilt}
-
--- what is false of both
-none_of_both : (a b : Bool) → (a || b) ≡ false → (a ≡ false) × (b ≡ false)
-none_of_both false b none = (refl, none)
-none_of_both true b none = absurd cc
 
 -- a table of the command's name
 is_named-true : (command : Command) (table : Table) → folded command.table ≡ folded table.row.name → is_named command table ≡ true
@@ -78,14 +73,14 @@ none_later command (first ∷ front) behind table named apart =
 pub after-none : (command : Command) (tables : List Table) → list_any (is_named command) tables ≡ false → after command tables ≡ tables
 after-none command [] none = refl
 after-none command (table ∷ tables) none =
-    let (here, others) = none_of_both (is_named command table) (list_any (is_named command) tables) none in
+    let (here, others) = or_parts (is_named command table) (list_any (is_named command) tables) none in
     ap₂ (λ (t : Table) (l : List Table). t ∷ l) (cond-false (is_named command table) (added command table) table here) (after-none command tables others)
 
 -- none of them is found
 pub find-none : (command : Command) (tables : List Table) → list_any (is_named command) tables ≡ false → find (is_named command) tables ≡ None
 find-none command [] none = refl
 find-none command (table ∷ tables) none =
-    let (here, others) = none_of_both (is_named command table) (list_any (is_named command) tables) none in
+    let (here, others) = or_parts (is_named command table) (list_any (is_named command) tables) none in
     cond-false (is_named command table) (Some table) (find (is_named command) tables) here ∙ find-none command tables others
 
 -- another value at the place of one

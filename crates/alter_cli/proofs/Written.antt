@@ -1,5 +1,6 @@
 -- The cells of rows as they are written, and the page that holds them.
 use Rattle.std.proofs.Common.{◌≡◌, ◌<◌, ◌≤◌, ℕ, ◌+◌, ◌-◌, ◌^◌, Bool, true, false, ◌&&◌, nat_le, List, [], ◌∷◌, ◌++◌, length, map, take, drop, get_or, length-drop, refl, sym, ◌∙◌, ap, ap₂, subst, arith, append-nil, append_assoc}
+use Rattle.std.proofs.Math.Bool.{and-true}
 use Rattle.std.proofs.lemmas.Bool.{and_from, le-leb}
 use Rattle.std.proofs.lemmas.List.{drop-drop, drop-map, get_or-map, length-map, map-append, take-map, take_all}
 use Rattle.std.proofs.lemmas.List.Folds.{list_all-append, list_all_at}
@@ -41,11 +42,6 @@ whole_row usable row small id fits =
 -- whether the payload of one more row is local
 abbrev pub is_local : ℕ → SchemaRow → Bool
 is_local usable row = nat_le (length (row_record row)) (usable - 35)
-
--- a test and nothing else
-and-true : (b : Bool) → (b && true) ≡ b
-and-true true = refl
-and-true false = refl
 
 -- one row whose payload is not local decides
 pub not_local : (usable : ℕ) (tables : List Table) (i : ℕ) (table : Table) (local : Bool) → i < length tables → table ≡ get_or tables i table
