@@ -18,6 +18,7 @@ use Rattle.alter_cli.specs.Step.{added, after, are_local, has_column, is_built, 
 use Rattle.alter_cli.specs.Served.{IsReady, IsReadyTable}
 use Rattle.alter_cli.specs.Plan.{IsTaken, KeepsExtent, Plans}
 use Rattle.alter_cli.proofs.Retold.{apart_after}
+use Rattle.alter_cli.proofs.Tables.{unbroken}
 
 -- a table as a command may leave it
 abbrev left_table : Bool → Command → Table → Table
@@ -61,26 +62,13 @@ left_all usable command (table ∷ tables) small ready local =
     below : (n u : ℕ) → nat_le n (u - 35) ≡ true → u ≤ 65536 → n ≤ 65536
     below n u e h = grind (arith, nat_tests)
 
--- no restriction is broken, so the rows have room
-built : (usable : ℕ) (tables : List Table) (command : Command) (found : Option Table) → refusal_at usable tables command found ≡ None
-    → is_built usable (rows_of (after command tables)) ≡ true
-built usable tables command None none = absurd cc
-built usable tables command (Some table) none =
-    room_of (has_column command table) (nat_le 2000 (length table.columns)) (is_built usable (rows_of (after command tables))) none
-  where
-    room_of : (taken many room : Bool) → (if taken then Some ColumnTaken else if many then Some TooManyColumns else if room then None else Some Unbuilt) ≡ None → room ≡ true
-    room_of true many room none = absurd cc
-    room_of false true room none = absurd cc
-    room_of false false true none = refl
-    room_of false false false none = absurd cc
-
 -- a form that took over a plan is as ready as before
 pub stays_ready : (form : Form) (command : Command) (plan : Plan) (new : Form) → IsReady form → Plans form command plan → KeepsExtent form plan
     → IsTaken form plan new → IsReady new
 stays_ready form command (plans.Refused refusal) new ready is keeps taken = subst IsReady (sym taken) ready
 stays_ready form command (plans.Changed change) new ready is keeps taken =
     let tables = taken.tables ∙ is.2 in
-    let room = built form.sizes.usable form.tables.items command (find (is_named command) form.tables.items) is.0 in
+    let room = (unbroken form.sizes.usable form.tables.items command (find (is_named command) form.tables.items) is.0).built in
     let local = (and_parts (are_local form.sizes.usable (rows_of (after command form.tables.items))) _ room).0 in
     let small : form.sizes.usable ≤ 65536 = omega (arith, ready.sound.usable, ready.sound.page) in
     record {

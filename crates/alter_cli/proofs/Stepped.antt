@@ -25,29 +25,7 @@ use Rattle.alter_cli.proofs.Added as done
 use Rattle.alter_cli.proofs.Held.{have_room}
 use Rattle.alter_cli.proofs.ImageLemmas.{has_first, length-first_page, some_page}
 use Rattle.alter_cli.proofs.Retold.{spelled_added, spelled_after}
-
--- what holds where no restriction is broken
-record IsUnbroken (usable : ℕ) (tables : List Table) (command : Command) (at : Option Table) : Type 0 where
-  table : Table
-  found : at ≡ Some table
-  other : has_column command table ≡ false
-  built : is_built usable (rows_of (after command tables)) ≡ true
-
--- the tests of a command that breaks no restriction
-tests : (taken many room : Bool) → (if taken then Some ColumnTaken else if many then Some TooManyColumns else if room then None else Some Unbuilt) ≡ None
-    → (taken ≡ false) × (room ≡ true)
-tests true many room none = absurd cc
-tests false true room none = absurd cc
-tests false false true none = (refl, refl)
-tests false false false none = absurd cc
-
--- a command that breaks no restriction is about a table
-unbroken : (usable : ℕ) (tables : List Table) (command : Command) (at : Option Table) → refusal_at usable tables command at ≡ None
-    → IsUnbroken usable tables command at
-unbroken usable tables command None none = absurd cc
-unbroken usable tables command (Some table) none =
-    let (other, built) = tests (has_column command table) (nat_le 2000 (length table.columns)) (is_built usable (rows_of (after command tables))) none in
-    record { table = table; found = refl; other = other; built = built }
+use Rattle.alter_cli.proofs.Tables.{unbroken}
 
 -- page 1 after the command, by equal numbers
 same_page : (count n usable u : ℕ) (page p : List ℕ) (rows : List SchemaRow) → count ≡ n → usable ≡ u → page ≡ p

@@ -1,5 +1,5 @@
 -- Lists of tables: which of them a command is about, and what it makes of them.
-use Rattle.std.proofs.Common.{◌≡◌, ◌<◌, ℕ, suc, ◌+◌, Bool, true, false, ◌||◌, ◌≤◌, nat_le, if◌then◌else◌, Some, None, List, [], ◌∷◌, ◌++◌, length, take, drop, get_or, AllPairs, refl, sym, ◌∙◌, ap, ap₂, subst, arith, length-append}
+use Rattle.std.proofs.Common.{◌≡◌, ◌<◌, ℕ, suc, ◌+◌, Bool, true, false, ◌||◌, ◌≤◌, nat_le, if◌then◌else◌, Some, None, List, [], ◌∷◌, ◌++◌, length, take, drop, get_or, AllPairs, refl, sym, ◌∙◌, ap, ap₂, subst, arith, length-append, Option}
 use Rattle.std.proofs.Math.Seq.{get_or-append_seam}
 use Rattle.std.proofs.lemmas.Bool.{or_parts, cond-false, cond-true, false_from_ne_true, le-leb, lt-leb}
 use Rattle.std.proofs.lemmas.List.{drop_more, length-map, length-take-le, map-append, take-append-drop, take_at}
@@ -186,3 +186,26 @@ pub unrefused : (usable : ℕ) (tables : List Table) (command : Command) (table 
     → refusal_of usable tables command ≡ None
 unrefused usable tables command table found other few built =
     tested usable tables command table false true found other (lt-leb 2000 (length table.columns) few) built
+
+-- what holds where no restriction is broken
+pub record IsUnbroken (usable : ℕ) (tables : List Table) (command : Command) (at : Option Table) : Type 0 where
+  pub table : Table
+  pub found : at ≡ Some table
+  pub other : has_column command table ≡ false
+  pub built : is_built usable (rows_of (after command tables)) ≡ true
+
+-- the tests of a command that breaks no restriction
+tests : (taken many room : Bool) → (if taken then Some ColumnTaken else if many then Some TooManyColumns else if room then None else Some Unbuilt) ≡ None
+    → (taken ≡ false) × (room ≡ true)
+tests true many room none = absurd cc
+tests false true room none = absurd cc
+tests false false true none = (refl, refl)
+tests false false false none = absurd cc
+
+-- a command that breaks no restriction is about a table
+pub unbroken : (usable : ℕ) (tables : List Table) (command : Command) (at : Option Table) → refusal_at usable tables command at ≡ None
+    → IsUnbroken usable tables command at
+unbroken usable tables command None none = absurd cc
+unbroken usable tables command (Some table) none =
+    let (other, built) = tests (has_column command table) (nat_le 2000 (length table.columns)) (is_built usable (rows_of (after command tables))) none in
+    record { table = table; found = refl; other = other; built = built }

@@ -55,7 +55,7 @@ fn local_row<'a>(page: &'a [u8], cell: &Cell) -> Option<(u32, &'a [u8])>
 }
 
 /// The row that a cell holds, if it holds one, and all of it on the page.
-fn row_of(alloc: Global, page: &[u8], cell: &Cell) -> Result<Option<SchemaRow>, AllocError>
+fn held_row(alloc: Global, page: &[u8], cell: &Cell) -> Result<Option<SchemaRow>, AllocError>
     requires { IsOnPage page.now cell.now }
     ensures found { IfOk result (λ read. IfSome read (HoldsRow page.now cell.now)) }
     ensures short { IfOk result (λ read. IfSome read (IsShortRow page.now)) }
@@ -68,7 +68,11 @@ fn row_of(alloc: Global, page: &[u8], cell: &Cell) -> Result<Option<SchemaRow>, 
 }
 
 /// The rows that the cells hold, one each.
-fn rows_of(alloc: Global, page: &[u8], cells: &[Cell]) -> Result<Option<Vec<SchemaRow>>, AllocError>
+fn held_rows(
+    alloc: Global,
+    page: &[u8],
+    cells: &[Cell],
+) -> Result<Option<Vec<SchemaRow>>, AllocError>
     requires { AllByRecursion (IsOnPage page.now) cells.now }
     ensures found { IfOk result (λ read. IfSome read (λ rows. HoldRows page.now cells.now rows.items)) }
     ensures short { IfOk result (λ read. IfSome read (λ rows. AllByRecursion (IsShortRow page.now) rows.items)) }
@@ -76,7 +80,7 @@ fn rows_of(alloc: Global, page: &[u8], cells: &[Cell]) -> Result<Option<Vec<Sche
 {
     let mut rows = Vec::new(alloc);
     for cell in cells {
-        match row_of(alloc, page, cell)? {
+        match held_row(alloc, page, cell)? {
             Some(row) => rows.push(row)?,
             None => return Ok(None),
         }
@@ -96,7 +100,7 @@ pub fn read_rows(
     ensures only { (list : List SchemaRow) → AllByRecursion (λ row. row.root < 2 ^ 31) list → HoldsRows page.now usable list → Yields AnyError (λ read. IsSomeAnd read (λ found. found.items ≡ list)) result }
 {
     match first_cells(alloc, page, usable)? {
-        Some(cells) => rows_of(alloc, page, cells.as_slice()),
+        Some(cells) => held_rows(alloc, page, cells.as_slice()),
         None => Ok(None),
     }
 }

@@ -6,7 +6,7 @@ use Rattle.alter_cli.specs.FirstPage.{HoldRows}
 use Rattle.alter_cli.specs.Served.{IsShortRow}
 use Rattle.common_laws.proofs.Each.{all_push}
 use Rattle.alter_cli.proofs.PageLemmas.{AreFirst, held_next, first_more, no_rows, first_all}
-use Rattle.alter_cli.proofs.pages.rows_of.Goals as goal
+use Rattle.alter_cli.proofs.pages.held_rows.Goals as goal
 
 -- what a cell is read as where there is none
 abbrev none : Cell

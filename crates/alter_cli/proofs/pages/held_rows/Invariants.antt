@@ -3,7 +3,7 @@ use Rattle.std.specs.List.{AllByRecursion}
 use Rattle.alter_cli.specs.FirstPage.{HoldRows}
 use Rattle.alter_cli.specs.Served.{IsShortRow}
 use Rattle.alter_cli.proofs.PageLemmas.{AreFirst}
-use Rattle.alter_cli.proofs.pages.rows_of.Given as goal
+use Rattle.alter_cli.proofs.pages.held_rows.Given as goal
 
 -- the cells so far hold the rows so far, which are short, and the only ones
 abbrev pub invariant-loop-cell : goal.invariant-loop-cell
