@@ -1,61 +1,64 @@
 -- How long a payload's local part is.
-use Rattle.std.proofs.Common.{◌≡◌, ℕ, ◌+◌, ◌-◌, ◌*◌, ◌/◌, ◌%◌, ◌<◌, ◌≤◌, inl, inr, ap, nat_lt, if◌then◌else◌, arith}
+use Rattle.std.proofs.Common.{◌≡◌, ℕ, ◌<◌, ◌≤◌, inl, inr, ap, nat_lt, if◌then◌else◌, arith}
 use Rattle.std.proofs.lemmas.Bool.{cases_lt}
 use Rattle.std.proofs.lemmas.Bool.Decides.{nat_tests}
-use Rattle.page_cells.specs.Layout.{local_payload, overflow_size}
+use Rattle.page_cells.specs.Layout.{fill_local, least_local, least_usable, local_payload, most_local, overflow_size}
+use Rattle.page_cells.specs.declared.kind.Kind.{Kind}
+use Rattle.page_cells.specs.declared.kind.Kind.TheVariants.{IndexInner, TableInner, IndexLeaf, TableLeaf}
 
--- the least that stands in the page of a payload that does not wholly
-abbrev pub least_local : ℕ → ℕ
-least_local usable = (usable - 12) * 32 / 255 - 23
-
--- what stands in the page of such a payload so that its last overflow page is full
-abbrev pub fill_local : ℕ → ℕ → ℕ
-fill_local usable p = least_local usable + (p - least_local usable) % (usable - 4)
-
-pub local_payload-whole : (usable p : ℕ) → p ≤ usable - 35 → local_payload usable p ≡ p
+pub local_payload-whole : (kind : Kind) (usable p : ℕ) → p ≤ most_local kind usable → local_payload kind usable p ≡ p
 unfolding local_payload
-local_payload-whole usable p h = grind (arith, nat_tests)
+local_payload-whole kind usable p h = grind (arith, nat_tests)
 
-pub local_payload-fill : (usable p : ℕ) → usable - 35 < p → fill_local usable p ≤ usable - 35 → local_payload usable p ≡ fill_local usable p
+pub local_payload-fill : (kind : Kind) (usable p : ℕ) → most_local kind usable < p → fill_local usable p ≤ most_local kind usable
+    → local_payload kind usable p ≡ fill_local usable p
 unfolding local_payload
-local_payload-fill usable p h k = grind (arith, nat_tests)
+local_payload-fill kind usable p h k = grind (arith, nat_tests)
 
-pub local_payload-least : (usable p : ℕ) → usable - 35 < p → usable - 35 < fill_local usable p → local_payload usable p ≡ least_local usable
+pub local_payload-least : (kind : Kind) (usable p : ℕ) → most_local kind usable < p → most_local kind usable < fill_local usable p
+    → local_payload kind usable p ≡ least_local usable
 unfolding local_payload
-local_payload-least usable p h k = grind (arith, nat_tests)
+local_payload-least kind usable p h k = grind (arith, nat_tests)
+
+-- the least of a longer payload is no more than the most
+least-le-most : (kind : Kind) (usable : ℕ) → least_usable ≤ usable → least_local usable ≤ most_local kind usable
+least-le-most IndexInner usable least = omega arith
+least-le-most TableInner usable least = omega arith
+least-le-most IndexLeaf usable least = omega arith
+least-le-most TableLeaf usable least = omega arith
 
 -- the local part leaves room in the page, and is a part of the payload
-pub local_payload-le : (usable p : ℕ) → 480 ≤ usable → local_payload usable p ≤ usable - 35
-local_payload-le usable p least = elim (cases_lt (usable - 35) p) [
-  | inr whole ↦ omega (arith, local_payload-whole usable p whole, whole)
-  | inl over ↦ elim (cases_lt (usable - 35) (fill_local usable p)) [
-    | inr fills ↦ omega (arith, local_payload-fill usable p over fills, fills)
-    | inl past ↦ omega (arith, local_payload-least usable p over past)
+pub local_payload-le : (kind : Kind) (usable p : ℕ) → least_usable ≤ usable → local_payload kind usable p ≤ most_local kind usable
+local_payload-le kind usable p least = elim (cases_lt (most_local kind usable) p) [
+  | inr whole ↦ omega (arith, local_payload-whole kind usable p whole, whole)
+  | inl over ↦ elim (cases_lt (most_local kind usable) (fill_local usable p)) [
+    | inr fills ↦ omega (arith, local_payload-fill kind usable p over fills, fills)
+    | inl past ↦ omega (arith, local_payload-least kind usable p over past, least-le-most kind usable least)
   ]
 ]
 
-pub local_payload-le-payload : (usable p : ℕ) → 480 ≤ usable → local_payload usable p ≤ p
-local_payload-le-payload usable p least = elim (cases_lt (usable - 35) p) [
-  | inr whole ↦ omega (arith, local_payload-whole usable p whole)
-  | inl over ↦ elim (cases_lt (usable - 35) (fill_local usable p)) [
-    | inr fills ↦ omega (arith, local_payload-fill usable p over fills, fills)
-    | inl past ↦ omega (arith, local_payload-least usable p over past)
+pub local_payload-le-payload : (kind : Kind) (usable p : ℕ) → least_usable ≤ usable → local_payload kind usable p ≤ p
+local_payload-le-payload kind usable p least = elim (cases_lt (most_local kind usable) p) [
+  | inr whole ↦ omega (arith, local_payload-whole kind usable p whole)
+  | inl over ↦ elim (cases_lt (most_local kind usable) (fill_local usable p)) [
+    | inr fills ↦ omega (arith, local_payload-fill kind usable p over fills, fills)
+    | inl past ↦ omega (arith, local_payload-least kind usable p over past, least-le-most kind usable least)
   ]
 ]
 
 -- the number of an overflow page stands in the cell where payload overflows
-pub overflow_size-some : (usable p : ℕ) → local_payload usable p < p → overflow_size usable p ≡ 4
+pub overflow_size-some : (kind : Kind) (usable p : ℕ) → local_payload kind usable p < p → overflow_size kind usable p ≡ 4
 unfolding overflow_size
-overflow_size-some usable p h = grind (arith, nat_tests)
+overflow_size-some kind usable p h = grind (arith, nat_tests)
 
-pub overflow_size-none : (usable p : ℕ) → p ≤ local_payload usable p → overflow_size usable p ≡ 0
+pub overflow_size-none : (kind : Kind) (usable p : ℕ) → p ≤ local_payload kind usable p → overflow_size kind usable p ≡ 0
 unfolding overflow_size
-overflow_size-none usable p h = grind (arith, nat_tests)
+overflow_size-none kind usable p h = grind (arith, nat_tests)
 
-pub overflow_size-le : (usable p : ℕ) → overflow_size usable p ≤ 4
+pub overflow_size-le : (kind : Kind) (usable p : ℕ) → overflow_size kind usable p ≤ 4
 unfolding overflow_size
-overflow_size-le usable p = grind (arith, nat_tests)
+overflow_size-le kind usable p = grind (arith, nat_tests)
 
-pub overflow_size-is : (usable p local : ℕ) → local ≡ local_payload usable p → (if nat_lt local p then 4 else 0) ≡ overflow_size usable p
+pub overflow_size-is : (kind : Kind) (usable p local : ℕ) → local ≡ local_payload kind usable p → (if nat_lt local p then 4 else 0) ≡ overflow_size kind usable p
 unfolding overflow_size
-overflow_size-is usable p local e = ap (λ k. if nat_lt k p then 4 else 0) e
+overflow_size-is kind usable p local e = ap (λ k. if nat_lt k p then 4 else 0) e

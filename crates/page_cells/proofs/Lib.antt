@@ -1,3 +1,4 @@
+pub mod CellLemmas
 pub mod CellsLemmas
 pub mod LayoutLemmas
 pub mod LeafLemmas

@@ -1,27 +1,29 @@
 -- The bytes of a written page, and what a reader finds in them.
-use Rattle.std.proofs.Common.{◌≡◌, Bool, ℕ, zero, suc, ◌+◌, ◌-◌, ◌*◌, ◌%◌, ◌<◌, ◌≤◌, inl, inr, nat_lt, if◌then◌else◌, List, [], ◌∷◌, ◌++◌, length, take, drop, replicate, get_or, slice_index, Option, Some, None, refl, sym, ap, ap₂, subst, ◌∙◌, arith, length-append, length-drop, append_assoc}
+use Rattle.std.proofs.Common.{◌≡◌, Bool, ℕ, zero, suc, ◌+◌, ◌-◌, ◌*◌, ◌%◌, ◌^◌, ◌<◌, ◌≤◌, inl, inr, nat_lt, if◌then◌else◌, List, [], ◌∷◌, ◌++◌, length, take, drop, replicate, get_or, slice_index, Option, Some, None, refl, sym, ap, ap₂, subst, ◌∙◌, arith, length-append, length-drop, append_assoc}
 use Rattle.std.proofs.lemmas.Bool.{cases_lt}
 use Rattle.std.proofs.lemmas.Bool.Decides.{nat_tests}
 use Rattle.std.proofs.lemmas.List.{append-nil, append_cancel_left, drop-drop, drop_at, drop_more, get_or_at, length-replicate, length-take-le, take-append-drop, take_at, take_more}
 use Rattle.std.proofs.lemmas.List.Elements.{All-head, All-tail}
 use Rattle.std.proofs.lemmas.List.Sums.{sum_by-append, sum_by-cons, sum_by_push}
 use Rattle.std.proofs.lemmas.Option.{get_or_from_slice_get, same_Some, slice_get-get_or, slice_get_within}
-use Rattle.std.specs.Int.{cast_signed, w64}
 use Rattle.std.specs.List.{All, slice_get}
 use Rattle.byteorder.specs.Endian.{big_bytes, big_number}
 use Rattle.alter_bytes.specs.Field.{overlaid}
 use Rattle.alter_bytes.specs.Varint.{IsVarint}
 use Rattle.common_laws.proofs.Lists.{same_front}
 use Rattle.common_laws.proofs.Places.{slice_get-take}
-use Rattle.alter_bytes.proofs.Fields.{big_number-append, big_number_inside, length-big_bytes, overlaid-behind}
+use Rattle.byteorder.specs.Numbers.{big_number-reads_back}
+use Rattle.std.specs.Option.{IsSomeAnd}
+use Rattle.alter_bytes.proofs.Fields.{big_number-big_bytes, big_number-append, big_number_inside, length-big_bytes, overlaid-behind}
 use Rattle.alter_bytes.proofs.VarintLemmas.{one_form}
 use Rattle.page_cells.proofs.LayoutLemmas.{overflow_size-some}
-use Rattle.page_cells.specs.Cells.{AreCells, HasCells, IsLeafCell, cell_end}
-use Rattle.page_cells.specs.Layout.{IsUsable, cell_count, header_start, local_payload, overflow_size, pointer, pointer_place, pointers_end}
-use Rattle.page_cells.specs.Write.{Fits, HoldsCells, IsWholeCell, cell_bytes, header_bytes, pointer_bytes, room, rooms, written_page}
+use Rattle.page_cells.specs.Cells.{AreCells, HasCells, HasChild, HasLength, HasPageNumber, HasRowid, HasVarint, IsCellAt, cell_end}
+use Rattle.page_cells.specs.Layout.{IsUsable, cell_count, child_len, header_start, kind_byte, local_payload, most_usable, overflow_size, page_header_len, pointer, pointer_place, pointers_end}
+use Rattle.page_cells.specs.Write.{Fits, HoldsCells, IsChild, IsLengthPart, IsRowidPart, IsWholeCell, cell_bytes, child_bytes, header_bytes, number_bytes, pointer_bytes, room, rooms, rowid_of, written_page}
 use Rattle.page_cells.specs.declared.cell.Cell.{Cell}
 use Rattle.page_cells.specs.declared.cell.PageCells.{PageCells}
-use Rattle.page_cells.specs.declared.kind.Kind.TheVariants.{TableLeaf}
+use Rattle.page_cells.specs.declared.kind.Kind.{Kind}
+use Rattle.page_cells.specs.declared.kind.Kind.TheVariants.{IndexInner, TableInner, IndexLeaf, TableLeaf}
 
 -- the bytes that a cell takes
 abbrev pub room_bytes : List ℕ → List ℕ
@@ -109,27 +111,42 @@ cells_more page content cells i start cell was within at fits is_start is =
     (omega (arith, length-cell_bytes (take i cells))) (omega (arith, rooms-take-le cells i))
     ∙ ap (overlaid page content) (sym (cell_bytes_more cells i cell within at))
 
+-- the lengths of a child's number and of the page's own header
+length-number_bytes : (child : Option ℕ) → length (number_bytes child) ≡ 4
+length-number_bytes None = length-big_bytes 4 0
+length-number_bytes (Some page) = length-big_bytes 4 page
+
+pub length-child_bytes : (kind : Kind) (child : Option ℕ) → length (child_bytes kind child) ≡ child_len kind
+length-child_bytes IndexInner child = length-number_bytes child
+length-child_bytes TableInner child = length-number_bytes child
+length-child_bytes IndexLeaf child = refl
+length-child_bytes TableLeaf child = refl
+
+pub length-header_bytes : (kind : Kind) (right : Option ℕ) (count content : ℕ) → length (header_bytes kind right count content) ≡ page_header_len kind
+length-header_bytes kind right count content = omega (arith, length-child_bytes kind right)
+
 -- the parts that are written one behind the other
-pub written_parts : (old : List ℕ) (first : Bool) (usable content : ℕ) (cells : List (List ℕ))
-    → usable ≤ length old → Fits first usable cells → content ≡ usable - rooms cells
-    → overlaid (overlaid (overlaid (overlaid old (header_start first) (header_bytes (length cells) content)) (header_start first + 8) (pointer_bytes content cells)) (pointer_place first (length cells)) (replicate (content - pointer_place first (length cells)) 0)) content (cell_bytes cells)
-    ≡ written_page old first usable cells
+pub written_parts : (old : List ℕ) (first : Bool) (kind : Kind) (right : Option ℕ) (usable content : ℕ) (cells : List (List ℕ))
+    → usable ≤ length old → Fits first kind usable cells → content ≡ usable - rooms cells
+    → overlaid (overlaid (overlaid (overlaid old (header_start first) (header_bytes kind right (length cells) content)) (header_start first + page_header_len kind) (pointer_bytes content cells)) (pointer_place first kind (length cells)) (replicate (content - pointer_place first kind (length cells)) 0)) content (cell_bytes cells)
+    ≡ written_page old first kind right usable cells
 unfolding written_page
-written_parts old first usable content cells within fits is =
+written_parts old first kind right usable content cells within fits is =
     let n = length cells in
     let at = header_start first in
-    let header = header_bytes n content in
+    let header = header_bytes kind right n content in
     let pointers = pointer_bytes content cells in
-    let behind = pointer_place first n in
+    let behind = pointer_place first kind n in
     let zeros : List ℕ = replicate (content - behind) 0 in
     let body = cell_bytes cells in
-    let two : length (header ++ pointers) ≡ 8 + 2 * n = length-append header pointers ∙ omega (arith, length-pointer_bytes content cells) in
-    let three : length (header ++ pointers ++ zeros) ≡ 8 + 2 * n + (content - behind) =
+    let len = length-header_bytes kind right n content in
+    let two : length (header ++ pointers) ≡ page_header_len kind + 2 * n = length-append header pointers ∙ omega (arith, len, length-pointer_bytes content cells) in
+    let three : length (header ++ pointers ++ zeros) ≡ page_header_len kind + 2 * n + (content - behind) =
     length-append (header ++ pointers) zeros ∙ omega (arith, two, length-replicate {A = ℕ} (content - behind) 0) in
     let four : length (header ++ pointers ++ zeros ++ body) ≡ usable - at =
     length-append (header ++ pointers ++ zeros) body ∙ omega (arith, three, length-cell_bytes cells) in
-    let one_place : overlaid (overlaid old at header) (at + 8) pointers ≡ overlaid old at (header ++ pointers) =
-    overlaid-behind old at header pointers (at + 8) (omega arith) (omega arith) in
+    let one_place : overlaid (overlaid old at header) (at + page_header_len kind) pointers ≡ overlaid old at (header ++ pointers) =
+    overlaid-behind old at header pointers (at + page_header_len kind) (omega (arith, len)) (omega arith) in
     let two_places : overlaid (overlaid old at (header ++ pointers)) behind zeros ≡ overlaid old at (header ++ pointers ++ zeros) =
     overlaid-behind old at (header ++ pointers) zeros behind (omega (arith, two)) (omega arith) in
     let three_places : overlaid (overlaid old at (header ++ pointers ++ zeros)) content body ≡ overlaid old at (header ++ pointers ++ zeros ++ body) =
@@ -139,29 +156,30 @@ written_parts old first usable content cells within fits is =
     ∙ three_places
     ∙ ap (λ k. take at old ++ (header ++ pointers ++ zeros ++ body) ++ drop k old) (omega (arith, four))
     ∙ regroup (take at old) header pointers zeros body (drop usable old)
-    ∙ ap (λ k. take at old ++ (header_bytes n k ++ (pointer_bytes k cells ++ (replicate (k - behind) 0 ++ (body ++ drop usable old))))) is
+    ∙ ap (λ k. take at old ++ (header_bytes kind right n k ++ (pointer_bytes k cells ++ (replicate (k - behind) 0 ++ (body ++ drop usable old))))) is
   where
     regroup : (t h p z c d : List ℕ) → t ++ (h ++ p ++ z ++ c) ++ d ≡ t ++ (h ++ (p ++ (z ++ (c ++ d))))
     regroup t h p z c d = simp append_assoc
 
-pub page_written : (old one two three four : List ℕ) (first : Bool) (usable at content : ℕ) (cells : List (List ℕ))
-    → usable ≤ length old → Fits first usable cells → at ≡ header_start first → content ≡ usable - rooms cells
-    → one ≡ overlaid old at (header_bytes (length cells) content)
-    → two ≡ overlaid one (at + 8) (pointer_bytes content cells)
-    → three ≡ overlaid two (at + 8 + 2 * length cells) (replicate (content - (at + 8 + 2 * length cells)) 0)
+pub page_written : (old one two three four : List ℕ) (first : Bool) (kind : Kind) (right : Option ℕ) (usable at len content : ℕ) (cells : List (List ℕ))
+    → usable ≤ length old → Fits first kind usable cells → at ≡ header_start first → len ≡ page_header_len kind → content ≡ usable - rooms cells
+    → one ≡ overlaid old at (header_bytes kind right (length cells) content)
+    → two ≡ overlaid one (at + len) (pointer_bytes content cells)
+    → three ≡ overlaid two (at + len + 2 * length cells) (replicate (content - (at + len + 2 * length cells)) 0)
     → four ≡ overlaid three content (cell_bytes cells)
-    → four ≡ written_page old first usable cells
-page_written old one two three four first usable at content cells within fits is_at is e1 e2 e3 e4 =
+    → four ≡ written_page old first kind right usable cells
+page_written old one two three four first kind right usable at len content cells within fits is_at is_len is e1 e2 e3 e4 =
     let n = length cells in
     let pointers = pointer_bytes content cells in
+    let header = header_bytes kind right n content in
     e4
     ∙ ap (λ p. overlaid p content (cell_bytes cells)) (
     e3
-    ∙ ap (λ p. overlaid p (at + 8 + 2 * n) (replicate (content - (at + 8 + 2 * n)) 0))
-    (e2 ∙ ap (λ p. overlaid p (at + 8) pointers) e1)
+    ∙ ap (λ p. overlaid p (at + len + 2 * n) (replicate (content - (at + len + 2 * n)) 0))
+    (e2 ∙ ap (λ p. overlaid p (at + len) pointers) e1)
     )
-    ∙ ap (λ a. overlaid (overlaid (overlaid (overlaid old a (header_bytes n content)) (a + 8) pointers) (a + 8 + 2 * n) (replicate (content - (a + 8 + 2 * n)) 0)) content (cell_bytes cells)) is_at
-    ∙ written_parts old first usable content cells within fits is
+    ∙ ap₂ (λ a k. overlaid (overlaid (overlaid (overlaid old a header) (a + k) pointers) (a + k + 2 * n) (replicate (content - (a + k + 2 * n)) 0)) content (cell_bytes cells)) is_at is_len
+    ∙ written_parts old first kind right usable content cells within fits is
 
 -- where the cells of a written page begin
 abbrev pub content_start : ℕ → List (List ℕ) → ℕ
@@ -172,41 +190,43 @@ abbrev pub cell_place : ℕ → List (List ℕ) → ℕ → ℕ
 cell_place usable cells i = content_start usable cells + rooms (take i cells)
 
 -- the written page up to its own header, and behind it
-record Parts (old : List ℕ) (first : Bool) (usable : ℕ) (cells : List (List ℕ)) : Type 0 where
+record Parts (old : List ℕ) (first : Bool) (kind : Kind) (right : Option ℕ) (usable : ℕ) (cells : List (List ℕ)) : Type 0 where
   file : List ℕ
   zeros : List ℕ
   rest : List ℕ
   is_file : file ≡ take (header_start first) old
   is_rest : rest ≡ drop usable old
   file_len : length file ≡ header_start first
-  zeros_len : length zeros ≡ content_start usable cells - pointer_place first (length cells)
+  header_len : length (header_bytes kind right (length cells) (content_start usable cells)) ≡ page_header_len kind
+  zeros_len : length zeros ≡ content_start usable cells - pointer_place first kind (length cells)
   rest_len : length rest ≡ length old - usable
-  whole : written_page old first usable cells
-      ≡ file ++ (header_bytes (length cells) (content_start usable cells)
+  whole : written_page old first kind right usable cells
+      ≡ file ++ (header_bytes kind right (length cells) (content_start usable cells)
       ++ (pointer_bytes (content_start usable cells) cells
       ++ (zeros ++ (cell_bytes cells ++ rest))))
 
-parts_of : (old : List ℕ) (first : Bool) (usable : ℕ) (cells : List (List ℕ)) → IsUsable usable (length old) → Fits first usable cells
-    → Parts old first usable cells
+parts_of : (old : List ℕ) (first : Bool) (kind : Kind) (right : Option ℕ) (usable : ℕ) (cells : List (List ℕ)) → IsUsable usable (length old) → Fits first kind usable cells
+    → Parts old first kind right usable cells
 unfolding written_page
-parts_of old first usable cells u fits = record {
+parts_of old first kind right usable cells u fits = record {
   file = take (header_start first) old;
-  zeros = replicate (content_start usable cells - pointer_place first (length cells)) 0;
+  zeros = replicate (content_start usable cells - pointer_place first kind (length cells)) 0;
   rest = drop usable old;
   is_file = refl;
   is_rest = refl;
   file_len = length-take-le (header_start first) old (omega (arith, u.within, fits));
-  zeros_len = length-replicate {A = ℕ} (content_start usable cells - pointer_place first (length cells)) 0;
+  header_len = length-header_bytes kind right (length cells) (content_start usable cells);
+  zeros_len = length-replicate {A = ℕ} (content_start usable cells - pointer_place first kind (length cells)) 0;
   rest_len = length-drop usable old;
   whole = refl;
 }
 
 -- what stays of the page
-pub length-written_page : (old : List ℕ) (first : Bool) (usable : ℕ) (cells : List (List ℕ)) → IsUsable usable (length old) → Fits first usable cells
-    → length (written_page old first usable cells) ≡ length old
-length-written_page old first usable cells u fits =
-    let p = parts_of old first usable cells u fits in
-    let header = header_bytes (length cells) (content_start usable cells) in
+pub length-written_page : (old : List ℕ) (first : Bool) (kind : Kind) (right : Option ℕ) (usable : ℕ) (cells : List (List ℕ)) → IsUsable usable (length old) → Fits first kind usable cells
+    → length (written_page old first kind right usable cells) ≡ length old
+length-written_page old first kind right usable cells u fits =
+    let p = parts_of old first kind right usable cells u fits in
+    let header = header_bytes kind right (length cells) (content_start usable cells) in
     let pointers = pointer_bytes (content_start usable cells) cells in
     ap length p.whole
     ∙ length-append p.file (header ++ (pointers ++ (p.zeros ++ (cell_bytes cells ++ p.rest))))
@@ -219,25 +239,26 @@ length-written_page old first usable cells u fits =
       length-pointer_bytes (content_start usable cells) cells,
       length-cell_bytes cells,
       p.file_len,
+      p.header_len,
       p.zeros_len,
       p.rest_len,
       u.within,
       fits,
     )
 
-pub take-written_page : (old : List ℕ) (first : Bool) (usable : ℕ) (cells : List (List ℕ)) → IsUsable usable (length old) → Fits first usable cells
-    → take (header_start first) (written_page old first usable cells) ≡ take (header_start first) old
-take-written_page old first usable cells u fits =
-    let p = parts_of old first usable cells u fits in
+pub take-written_page : (old : List ℕ) (first : Bool) (kind : Kind) (right : Option ℕ) (usable : ℕ) (cells : List (List ℕ)) → IsUsable usable (length old) → Fits first kind usable cells
+    → take (header_start first) (written_page old first kind right usable cells) ≡ take (header_start first) old
+take-written_page old first kind right usable cells u fits =
+    let p = parts_of old first kind right usable cells u fits in
     ap (take (header_start first)) p.whole
-    ∙ take_at p.file (header_bytes (length cells) (content_start usable cells) ++ (pointer_bytes (content_start usable cells) cells ++ (p.zeros ++ (cell_bytes cells ++ p.rest)))) (header_start first) p.file_len
+    ∙ take_at p.file (header_bytes kind right (length cells) (content_start usable cells) ++ (pointer_bytes (content_start usable cells) cells ++ (p.zeros ++ (cell_bytes cells ++ p.rest)))) (header_start first) p.file_len
     ∙ p.is_file
 
-pub drop-written_page : (old : List ℕ) (first : Bool) (usable : ℕ) (cells : List (List ℕ)) → IsUsable usable (length old) → Fits first usable cells
-    → drop usable (written_page old first usable cells) ≡ drop usable old
-drop-written_page old first usable cells u fits =
-    let p = parts_of old first usable cells u fits in
-    let header = header_bytes (length cells) (content_start usable cells) in
+pub drop-written_page : (old : List ℕ) (first : Bool) (kind : Kind) (right : Option ℕ) (usable : ℕ) (cells : List (List ℕ)) → IsUsable usable (length old) → Fits first kind usable cells
+    → drop usable (written_page old first kind right usable cells) ≡ drop usable old
+drop-written_page old first kind right usable cells u fits =
+    let p = parts_of old first kind right usable cells u fits in
+    let header = header_bytes kind right (length cells) (content_start usable cells) in
     let pointers = pointer_bytes (content_start usable cells) cells in
     let len : length (p.file ++ header ++ pointers ++ p.zeros ++ cell_bytes cells) ≡ usable =
     length-append (p.file ++ header ++ pointers ++ p.zeros) (cell_bytes cells)
@@ -249,6 +270,7 @@ drop-written_page old first usable cells u fits =
       length-pointer_bytes (content_start usable cells) cells,
       length-cell_bytes cells,
       p.file_len,
+      p.header_len,
       p.zeros_len,
       fits,
     ) in
@@ -260,28 +282,57 @@ drop-written_page old first usable cells u fits =
     regroup f h p z c d = simp append_assoc
 
 -- the fields of the page's own header
-pub kind-written_page : (old : List ℕ) (first : Bool) (usable : ℕ) (cells : List (List ℕ)) → IsUsable usable (length old) → Fits first usable cells
-    → slice_index (written_page old first usable cells) (header_start first) ≡ 13
-kind-written_page old first usable cells u fits =
-    let p = parts_of old first usable cells u fits in
+pub kind-written_page : (old : List ℕ) (first : Bool) (kind : Kind) (right : Option ℕ) (usable : ℕ) (cells : List (List ℕ)) → IsUsable usable (length old) → Fits first kind usable cells
+    → slice_index (written_page old first kind right usable cells) (header_start first) ≡ kind_byte kind
+kind-written_page old first kind right usable cells u fits =
+    let p = parts_of old first kind right usable cells u fits in
     ap (λ l. slice_index l (header_start first)) p.whole
-    ∙ get_or_at p.file 13 (drop 1 (header_bytes (length cells) (content_start usable cells)) ++ (pointer_bytes (content_start usable cells) cells ++ (p.zeros ++ (cell_bytes cells ++ p.rest)))) 0 (header_start first) p.file_len
+    ∙ get_or_at p.file (kind_byte kind) (drop 1 (header_bytes kind right (length cells) (content_start usable cells)) ++ (pointer_bytes (content_start usable cells) cells ++ (p.zeros ++ (cell_bytes cells ++ p.rest)))) 0 (header_start first) p.file_len
 
-pub cell_count-written_page : (old : List ℕ) (first : Bool) (usable : ℕ) (cells : List (List ℕ)) → IsUsable usable (length old) → Fits first usable cells
-    → cell_count (written_page old first usable cells) first ≡ length cells
-cell_count-written_page old first usable cells u fits =
-    let p = parts_of old first usable cells u fits in
+pub cell_count-written_page : (old : List ℕ) (first : Bool) (kind : Kind) (right : Option ℕ) (usable : ℕ) (cells : List (List ℕ)) → IsUsable usable (length old) → Fits first kind usable cells
+    → cell_count (written_page old first kind right usable cells) first ≡ length cells
+cell_count-written_page old first kind right usable cells u fits =
+    let p = parts_of old first kind right usable cells u fits in
     let n = length cells in
-    let behind = big_bytes 2 (content_start usable cells % 65536) ++ 0 ∷ [] in
+    let behind = big_bytes 2 (content_start usable cells % most_usable) ++ 0 ∷ child_bytes kind right in
     let rest = pointer_bytes (content_start usable cells) cells ++ (p.zeros ++ (cell_bytes cells ++ p.rest)) in
-    let split : p.file ++ (header_bytes n (content_start usable cells) ++ rest) ≡ (p.file ++ 13 ∷ 0 ∷ 0 ∷ []) ++ big_bytes 2 n ++ (behind ++ rest) =
-    regroup p.file (13 ∷ 0 ∷ 0 ∷ []) (big_bytes 2 n) (big_bytes 2 (content_start usable cells % 65536)) (0 ∷ []) rest in
-    let len : length (p.file ++ 13 ∷ 0 ∷ 0 ∷ []) ≡ header_start first + 3 = length-append p.file (13 ∷ 0 ∷ 0 ∷ []) ∙ omega (arith, p.file_len) in
+    let split : p.file ++ (header_bytes kind right n (content_start usable cells) ++ rest) ≡ (p.file ++ kind_byte kind ∷ 0 ∷ 0 ∷ []) ++ big_bytes 2 n ++ (behind ++ rest) =
+    regroup p.file (kind_byte kind ∷ 0 ∷ 0 ∷ []) (big_bytes 2 n) (big_bytes 2 (content_start usable cells % most_usable)) (0 ∷ child_bytes kind right) rest in
+    let len : length (p.file ++ kind_byte kind ∷ 0 ∷ 0 ∷ []) ≡ header_start first + 3 = length-append p.file (kind_byte kind ∷ 0 ∷ 0 ∷ []) ∙ omega (arith, p.file_len) in
     ap (λ l. big_number 2 (drop (header_start first + 3) l)) (p.whole ∙ split)
-    ∙ big_number_inside 2 n (p.file ++ 13 ∷ 0 ∷ 0 ∷ []) (behind ++ rest) (header_start first + 3) (omega (arith, u.most, fits)) len
+    ∙ big_number_inside 2 n (p.file ++ kind_byte kind ∷ 0 ∷ 0 ∷ []) (behind ++ rest) (header_start first + 3) (omega (arith, u.most, fits)) len
   where
     regroup : (f a b c d rest : List ℕ) → f ++ (a ++ b ++ c ++ d ++ rest) ≡ (f ++ a) ++ b ++ ((c ++ d) ++ rest)
     regroup f a b c d rest = simp append_assoc
+
+-- the child behind the other fields of an interior page's own header
+right_inside : (old : List ℕ) (first : Bool) (kind : Kind) (page : ℕ) (usable : ℕ) (cells : List (List ℕ)) → IsUsable usable (length old) → Fits first kind usable cells
+    → page < 2 ^ 32 → child_len kind ≡ 4 → child_bytes kind (Some page) ≡ big_bytes 4 page
+    → HasPageNumber (written_page old first kind (Some page) usable cells) (header_start first + 8) (Some page)
+right_inside old first kind page usable cells u fits small four is =
+    let p = parts_of old first kind (Some page) usable cells u fits in
+    let fields = kind_byte kind ∷ 0 ∷ 0 ∷ big_bytes 2 (length cells) ++ big_bytes 2 (content_start usable cells % most_usable) ++ 0 ∷ [] in
+    let rest = pointer_bytes (content_start usable cells) cells ++ (p.zeros ++ (cell_bytes cells ++ p.rest)) in
+    let split : p.file ++ ((fields ++ child_bytes kind (Some page)) ++ rest) ≡ (p.file ++ fields) ++ big_bytes 4 page ++ rest =
+    ap (λ l. p.file ++ ((fields ++ l) ++ rest)) is ∙ regroup p.file fields (big_bytes 4 page) rest in
+    let len : length (p.file ++ fields) ≡ header_start first + 8 = length-append p.file fields ∙ omega (arith, p.file_len) in
+    record {
+      within = omega (arith, length-written_page old first kind (Some page) usable cells u fits, u.within, fits, four);
+      number = ap Some (sym (ap (λ l. big_number 4 (drop (header_start first + 8) l)) (p.whole ∙ split)
+          ∙ big_number_inside 4 page (p.file ++ fields) rest (header_start first + 8) small len));
+    }
+  where
+    regroup : (f h x r : List ℕ) → f ++ ((h ++ x) ++ r) ≡ (f ++ h) ++ x ++ r
+    regroup f h x r = simp append_assoc
+
+pub right-written_page : (old : List ℕ) (first : Bool) (kind : Kind) (right : Option ℕ) (usable : ℕ) (cells : List (List ℕ)) → IsUsable usable (length old)
+    → Fits first kind usable cells → IsChild kind right → HasChild kind (written_page old first kind right usable cells) (header_start first + 8) right
+right-written_page old first IndexInner None usable cells u fits is = absurd is
+right-written_page old first IndexInner (Some page) usable cells u fits is = right_inside old first IndexInner page usable cells u fits is refl refl
+right-written_page old first TableInner None usable cells u fits is = absurd is
+right-written_page old first TableInner (Some page) usable cells u fits is = right_inside old first TableInner page usable cells u fits is refl refl
+right-written_page old first IndexLeaf right usable cells u fits is = is
+right-written_page old first TableLeaf right usable cells u fits is = is
 
 -- the cells from cell i on, and the bytes that cell i takes
 pub drop_at_cell : (cells : List (List ℕ)) (i : ℕ) (bytes : List ℕ) → slice_get cells i ≡ Some bytes → drop i cells ≡ bytes ∷ drop (i + 1) cells
@@ -300,14 +351,14 @@ rooms_at_cell cells i bytes is =
     )
 
 -- the pointer of a cell
-pub pointer-written_page : (old : List ℕ) (first : Bool) (usable : ℕ) (cells : List (List ℕ)) → IsUsable usable (length old) → Fits first usable cells
+pub pointer-written_page : (old : List ℕ) (first : Bool) (kind : Kind) (right : Option ℕ) (usable : ℕ) (cells : List (List ℕ)) → IsUsable usable (length old) → Fits first kind usable cells
     → (i : ℕ) (bytes : List ℕ) → slice_get cells i ≡ Some bytes
-    → pointer (written_page old first usable cells) first i ≡ cell_place usable cells i
-pointer-written_page old first usable cells u fits i bytes is =
-    let p = parts_of old first usable cells u fits in
+    → pointer (written_page old first kind right usable cells) first kind i ≡ cell_place usable cells i
+pointer-written_page old first kind right usable cells u fits i bytes is =
+    let p = parts_of old first kind right usable cells u fits in
     let content = content_start usable cells in
     let at = cell_place usable cells i in
-    let header = header_bytes (length cells) content in
+    let header = header_bytes kind right (length cells) content in
     let before = pointer_bytes content (take i cells) in
     let after = pointer_bytes (at + room bytes) (drop (i + 1) cells) in
     let rest = p.zeros ++ (cell_bytes cells ++ p.rest) in
@@ -317,25 +368,25 @@ pointer-written_page old first usable cells u fits i bytes is =
     ∙ ap (λ l. before ++ pointer_bytes at l) (drop_at_cell cells i bytes is) in
     let split : p.file ++ (header ++ (pointer_bytes content cells ++ rest)) ≡ (p.file ++ header ++ before) ++ big_bytes 2 at ++ (after ++ rest) =
     ap (λ l. p.file ++ (header ++ (l ++ rest))) parted ∙ regroup p.file header before (big_bytes 2 at) after rest in
-    let len : length (p.file ++ header ++ before) ≡ pointer_place first i =
+    let len : length (p.file ++ header ++ before) ≡ pointer_place first kind i =
     length-append (p.file ++ header) before
-    ∙ omega (arith, length-append p.file header, p.file_len, length-pointer_bytes content (take i cells), length-take-le i cells (omega arith)) in
-    ap (λ l. big_number 2 (drop (pointer_place first i) l)) (p.whole ∙ split)
-    ∙ big_number_inside 2 at (p.file ++ header ++ before) (after ++ rest) (pointer_place first i)
+    ∙ omega (arith, length-append p.file header, p.file_len, p.header_len, length-pointer_bytes content (take i cells), length-take-le i cells (omega arith)) in
+    ap (λ l. big_number 2 (drop (pointer_place first kind i) l)) (p.whole ∙ split)
+    ∙ big_number_inside 2 at (p.file ++ header ++ before) (after ++ rest) (pointer_place first kind i)
     (omega (arith, u.most, fits, rooms_at_cell cells i bytes is)) len
   where
     regroup : (f h b x a rest : List ℕ) → f ++ (h ++ (b ++ (x ++ a) ++ rest)) ≡ (f ++ h ++ b) ++ x ++ (a ++ rest)
     regroup f h b x a rest = simp append_assoc
 
 -- what stands from a cell's place on
-pub cell-written_page : (old : List ℕ) (first : Bool) (usable : ℕ) (cells : List (List ℕ)) → IsUsable usable (length old) → Fits first usable cells
+pub cell-written_page : (old : List ℕ) (first : Bool) (kind : Kind) (right : Option ℕ) (usable : ℕ) (cells : List (List ℕ)) → IsUsable usable (length old) → Fits first kind usable cells
     → (i : ℕ) (bytes : List ℕ) → slice_get cells i ≡ Some bytes
-    → (rest : List ℕ) × (drop (cell_place usable cells i) (written_page old first usable cells) ≡ bytes ++ rest)
-cell-written_page old first usable cells u fits i bytes is =
-    let p = parts_of old first usable cells u fits in
+    → (rest : List ℕ) × (drop (cell_place usable cells i) (written_page old first kind right usable cells) ≡ bytes ++ rest)
+cell-written_page old first kind right usable cells u fits i bytes is =
+    let p = parts_of old first kind right usable cells u fits in
     let content = content_start usable cells in
     let at = cell_place usable cells i in
-    let header = header_bytes (length cells) content in
+    let header = header_bytes kind right (length cells) content in
     let pointers = pointer_bytes content cells in
     let before = cell_bytes (take i cells) in
     let fill : List ℕ = replicate (room bytes - length bytes) 0 in
@@ -354,6 +405,7 @@ cell-written_page old first usable cells u fits i bytes is =
       length-append (p.file ++ header) pointers,
       length-append p.file header,
       p.file_len,
+      p.header_len,
       p.zeros_len,
       length-pointer_bytes content cells,
       length-cell_bytes (take i cells),
@@ -367,57 +419,65 @@ cell-written_page old first usable cells u fits i bytes is =
     regroup f h p z b x y a d = simp append_assoc
 
 -- the cell that a reader finds where a whole cell stands
-abbrev pub found_cell : (usable at : ℕ) (bytes : List ℕ) → IsWholeCell usable bytes → Cell
-found_cell usable at bytes w = record {
-  left = None;
-  rowid = Some (cast_signed w64 w.rowid);
+abbrev pub found_cell : (kind : Kind) (usable at : ℕ) (bytes : List ℕ) → IsWholeCell kind usable bytes → Cell
+found_cell kind usable at bytes w = record {
+  left = w.left;
+  rowid = rowid_of kind w.rowid;
   payload = w.payload;
-  start = at + length w.length_part + length w.rowid_part;
-  end = at + length w.length_part + length w.rowid_part + local_payload usable w.payload;
-  overflow = if nat_lt (local_payload usable w.payload) w.payload then Some (big_number 4 w.overflow_part) else None;
+  start = at + child_len kind + length w.length_part + length w.rowid_part;
+  end = at + child_len kind + length w.length_part + length w.rowid_part + local_payload kind usable w.payload;
+  overflow = if nat_lt (local_payload kind usable w.payload) w.payload then Some (big_number 4 w.overflow_part) else None;
 }
 
 -- the lengths of a whole cell's parts
-pub length-whole : (usable : ℕ) (bytes : List ℕ) (w : IsWholeCell usable bytes)
-    → length bytes ≡ length w.length_part + length w.rowid_part + local_payload usable w.payload + overflow_size usable w.payload
-length-whole usable bytes w =
-    ap length w.whole ∙ length-append w.length_part (w.rowid_part ++ (w.local_part ++ w.overflow_part))
-    ∙ omega (arith, length-append w.rowid_part (w.local_part ++ w.overflow_part), length-append w.local_part w.overflow_part, w.local, w.overflow)
+pub length-whole : (kind : Kind) (usable : ℕ) (bytes : List ℕ) (w : IsWholeCell kind usable bytes)
+    → length bytes ≡ child_len kind + length w.length_part + length w.rowid_part + local_payload kind usable w.payload + overflow_size kind usable w.payload
+length-whole kind usable bytes w =
+    ap length w.whole ∙ length-append (child_bytes kind w.left) (w.length_part ++ (w.rowid_part ++ (w.local_part ++ w.overflow_part)))
+    ∙ omega (arith, length-child_bytes kind w.left, length-append w.length_part (w.rowid_part ++ (w.local_part ++ w.overflow_part)), length-append w.rowid_part (w.local_part ++ w.overflow_part), length-append w.local_part w.overflow_part, w.local, w.overflow)
 
-pub cell_end-found : (usable at : ℕ) (bytes : List ℕ) (w : IsWholeCell usable bytes) → cell_end usable (found_cell usable at bytes w) ≡ at + length bytes
-cell_end-found usable at bytes w = omega (arith, length-whole usable bytes w)
+pub cell_end-found : (kind : Kind) (usable at : ℕ) (bytes : List ℕ) (w : IsWholeCell kind usable bytes) → cell_end kind usable (found_cell kind usable at bytes w) ≡ at + length bytes
+cell_end-found kind usable at bytes w = omega (arith, length-whole kind usable bytes w)
 
 -- the parts of a page at the places of a whole cell's parts
-pub record StandsAt (page : List ℕ) (usable at : ℕ) (bytes : List ℕ) (w : IsWholeCell usable bytes) : Type 0 where
+pub record StandsAt (page : List ℕ) (kind : Kind) (usable at : ℕ) (bytes : List ℕ) (w : IsWholeCell kind usable bytes) : Type 0 where
   pub within : at + length bytes ≤ length page
-  pub length_part : take (length w.length_part) (drop at page) ≡ w.length_part
-  pub rowid_part : take (length w.rowid_part) (drop (at + length w.length_part) page) ≡ w.rowid_part
-  pub local_part : take (local_payload usable w.payload) (drop (at + length w.length_part + length w.rowid_part) page) ≡ w.local_part
+  pub after : List ℕ
+  pub left_part : drop at page ≡ child_bytes kind w.left ++ after
+  pub length_part : take (length w.length_part) (drop (at + child_len kind) page) ≡ w.length_part
+  pub rowid_part : take (length w.rowid_part) (drop (at + child_len kind + length w.length_part) page) ≡ w.rowid_part
+  pub local_part : take (local_payload kind usable w.payload) (drop (at + child_len kind + length w.length_part + length w.rowid_part) page) ≡ w.local_part
   pub behind : List ℕ
-  pub overflow_part : drop (at + length w.length_part + length w.rowid_part + local_payload usable w.payload) page ≡ w.overflow_part ++ behind
+  pub overflow_part : drop (at + child_len kind + length w.length_part + length w.rowid_part + local_payload kind usable w.payload) page ≡ w.overflow_part ++ behind
 
-pub stands_at : (page : List ℕ) (usable at : ℕ) (bytes rest : List ℕ) (w : IsWholeCell usable bytes) → at ≤ length page → drop at page ≡ bytes ++ rest
-    → StandsAt page usable at bytes w
-stands_at page usable at bytes rest w within is =
+pub stands_at : (page : List ℕ) (kind : Kind) (usable at : ℕ) (bytes rest : List ℕ) (w : IsWholeCell kind usable bytes) → at ≤ length page → drop at page ≡ bytes ++ rest
+    → StandsAt page kind usable at bytes w
+stands_at page kind usable at bytes rest w within is =
+    let e = child_bytes kind w.left in
     let a = w.length_part in
     let b = w.rowid_part in
     let c = w.local_part in
     let d = w.overflow_part in
-    let first : drop at page ≡ a ++ (b ++ (c ++ (d ++ rest))) = is ∙ ap (λ l. l ++ rest) w.whole ∙ regroup a b c d rest in
-    let second : drop (at + length a) page ≡ b ++ (c ++ (d ++ rest)) = behind page at a (b ++ (c ++ (d ++ rest))) first in
-    let third : drop (at + length a + length b) page ≡ c ++ (d ++ rest) = behind page (at + length a) b (c ++ (d ++ rest)) second in
-    let fourth : drop (at + length a + length b + length c) page ≡ d ++ rest = behind page (at + length a + length b) c (d ++ rest) third in
+    let place = at + child_len kind in
+    let whole : drop at page ≡ e ++ (a ++ (b ++ (c ++ (d ++ rest)))) = is ∙ ap (λ l. l ++ rest) w.whole ∙ regroup e a b c d rest in
+    let first : drop place page ≡ a ++ (b ++ (c ++ (d ++ rest))) =
+    ap (λ n. drop (at + n) page) (sym (length-child_bytes kind w.left)) ∙ behind page at e (a ++ (b ++ (c ++ (d ++ rest)))) whole in
+    let second : drop (place + length a) page ≡ b ++ (c ++ (d ++ rest)) = behind page place a (b ++ (c ++ (d ++ rest))) first in
+    let third : drop (place + length a + length b) page ≡ c ++ (d ++ rest) = behind page (place + length a) b (c ++ (d ++ rest)) second in
+    let fourth : drop (place + length a + length b + length c) page ≡ d ++ rest = behind page (place + length a + length b) c (d ++ rest) third in
     record {
       within = omega (arith, ap length is, length-drop at page, length-append bytes rest);
+      after = a ++ (b ++ (c ++ (d ++ rest)));
+      left_part = whole;
       length_part = ap (take (length a)) first ∙ take_at a (b ++ (c ++ (d ++ rest))) (length a) refl;
       rowid_part = ap (take (length b)) second ∙ take_at b (c ++ (d ++ rest)) (length b) refl;
-      local_part = ap (take (local_payload usable w.payload)) third ∙ take_at c (d ++ rest) (local_payload usable w.payload) w.local;
+      local_part = ap (take (local_payload kind usable w.payload)) third ∙ take_at c (d ++ rest) (local_payload kind usable w.payload) w.local;
       behind = rest;
-      overflow_part = ap (λ n. drop (at + length a + length b + n) page) (sym w.local) ∙ fourth;
+      overflow_part = ap (λ n. drop (place + length a + length b + n) page) (sym w.local) ∙ fourth;
     }
   where
-    regroup : (a b c d r : List ℕ) → a ++ (b ++ (c ++ d)) ++ r ≡ a ++ (b ++ (c ++ (d ++ r)))
-    regroup a b c d r = simp append_assoc
+    regroup : (e a b c d r : List ℕ) → (e ++ (a ++ (b ++ (c ++ d)))) ++ r ≡ e ++ (a ++ (b ++ (c ++ (d ++ r))))
+    regroup e a b c d r = simp append_assoc
 
     behind : (page : List ℕ) (at : ℕ) (a r : List ℕ) → drop at page ≡ a ++ r → drop (at + length a) page ≡ r
     behind page at a r is = sym (drop-drop (length a) at page) ∙ ap (drop (length a)) is ∙ drop_at a r (length a) refl
@@ -430,73 +490,98 @@ overflow_same local payload a b same = elim (cases_lt local payload) [
   | inr all ↦ grind (arith, nat_tests)
 ]
 
-pub leaf_found : (page : List ℕ) (usable at : ℕ) (bytes : List ℕ) (w : IsWholeCell usable bytes) → StandsAt page usable at bytes w
-    → IsLeafCell page usable at (found_cell usable at bytes w)
-leaf_found page usable at bytes w s =
-    let len = length-whole usable bytes w in
-    let end = at + length w.length_part + length w.rowid_part + local_payload usable w.payload in
+-- each field of the cell is found where its bytes stand
+number_found : (page : List ℕ) (at child : ℕ) (after : List ℕ) → at + 4 ≤ length page → drop at page ≡ big_bytes 4 child ++ after → child < 2 ^ 32
+    → HasPageNumber page at (Some child)
+number_found page at child after within is small =
+    record { within = within; number = ap Some (sym (ap (big_number 4) is ∙ big_number-reads_back 4 child after small)) }
+
+child_found : (kind : Kind) (page : List ℕ) (at : ℕ) (child : Option ℕ) (after : List ℕ) → at + child_len kind ≤ length page
+    → drop at page ≡ child_bytes kind child ++ after → IsChild kind child → HasChild kind page at child
+child_found IndexInner page at None after within is child = absurd child
+child_found IndexInner page at (Some n) after within is child = number_found page at n after within is child
+child_found TableInner page at None after within is child = absurd child
+child_found TableInner page at (Some n) after within is child = number_found page at n after within is child
+child_found IndexLeaf page at child after within is none = none
+child_found TableLeaf page at child after within is none = none
+
+varint_found : (page : List ℕ) (at : ℕ) (part : List ℕ) (v : ℕ) → at + length part ≤ length page → take (length part) (drop at page) ≡ part → IsVarint part v
+    → HasVarint page at (length part) v
+varint_found page at part v within there is = record { within = within; form = subst (λ l. IsVarint l v) (sym there) is }
+
+length_found : (kind : Kind) (page : List ℕ) (at : ℕ) (part : List ℕ) (payload : ℕ) → at + length part ≤ length page → take (length part) (drop at page) ≡ part
+    → IsLengthPart kind part payload → HasLength kind page at (length part) payload
+length_found IndexInner page at part payload within there is = varint_found page at part payload within there is
+length_found TableInner page at part payload within there is = (ap length is.0, is.1)
+length_found IndexLeaf page at part payload within there is = varint_found page at part payload within there is
+length_found TableLeaf page at part payload within there is = varint_found page at part payload within there is
+
+rowid_found : (kind : Kind) (page : List ℕ) (at : ℕ) (part : List ℕ) (rowid : ℕ) → at + length part ≤ length page → take (length part) (drop at page) ≡ part
+    → IsRowidPart kind part rowid → HasRowid kind page at (length part) (rowid_of kind rowid)
+rowid_found IndexInner page at part rowid within there is = (ap length is.0, refl)
+rowid_found TableInner page at part rowid within there is = record { bits = rowid; form = varint_found page at part rowid within there is; value = refl }
+rowid_found IndexLeaf page at part rowid within there is = (ap length is.0, refl)
+rowid_found TableLeaf page at part rowid within there is = record { bits = rowid; form = varint_found page at part rowid within there is; value = refl }
+
+pub cell_found : (page : List ℕ) (kind : Kind) (usable at : ℕ) (bytes : List ℕ) (w : IsWholeCell kind usable bytes) → StandsAt page kind usable at bytes w
+    → IsCellAt page kind usable at (found_cell kind usable at bytes w)
+cell_found page kind usable at bytes w s =
+    let len = length-whole kind usable bytes w in
+    let end = at + child_len kind + length w.length_part + length w.rowid_part + local_payload kind usable w.payload in
     record {
       length_size = length w.length_part;
       rowid_size = length w.rowid_part;
-      rowid_bits = w.rowid;
-      has_length = record {
-        within = omega (arith, s.within, len);
-        form = subst (λ l. IsVarint l w.payload) (sym s.length_part) w.is_length;
-      };
-      has_rowid = record {
-        within = omega (arith, s.within, len);
-        form = subst (λ l. IsVarint l w.rowid) (sym s.rowid_part) w.is_rowid;
-      };
-      left = refl;
-      rowid = refl;
+      left = child_found kind page at w.left s.after (omega (arith, s.within, len)) s.left_part w.is_left;
+      payload = length_found kind page (at + child_len kind) w.length_part w.payload (omega (arith, s.within, len)) s.length_part w.is_length;
+      rowid = rowid_found kind page (at + child_len kind + length w.length_part) w.rowid_part w.rowid (omega (arith, s.within, len)) s.rowid_part w.is_rowid;
       start = refl;
       end = refl;
-      overflow = overflow_same (local_payload usable w.payload) w.payload (big_number 4 w.overflow_part) (big_number 4 (drop end page))
+      overflow = overflow_same (local_payload kind usable w.payload) w.payload (big_number 4 w.overflow_part) (big_number 4 (drop end page))
           (λ more. sym (ap (big_number 4) s.overflow_part
-          ∙ big_number-append 4 w.overflow_part s.behind (omega (arith, w.overflow, overflow_size-some usable w.payload more))));
+          ∙ big_number-append 4 w.overflow_part s.behind (omega (arith, w.overflow, overflow_size-some kind usable w.payload more))));
     }
 
 -- the cells that a reader finds where whole cells stand one after the other
-pub found_cells : (usable at : ℕ) (cells : List (List ℕ)) → All (IsWholeCell usable) cells → List Cell
-found_cells usable at [] whole = []
-found_cells usable at (x ∷ xs) whole =
-    found_cell usable at x (All-head (IsWholeCell usable) x xs whole) ∷ found_cells usable (at + room x) xs (All-tail (IsWholeCell usable) x xs whole)
+pub found_cells : (kind : Kind) (usable at : ℕ) (cells : List (List ℕ)) → All (IsWholeCell kind usable) cells → List Cell
+found_cells kind usable at [] whole = []
+found_cells kind usable at (x ∷ xs) whole =
+    found_cell kind usable at x (All-head (IsWholeCell kind usable) x xs whole) ∷ found_cells kind usable (at + room x) xs (All-tail (IsWholeCell kind usable) x xs whole)
 
-pub length-found_cells : (usable at : ℕ) (cells : List (List ℕ)) (whole : All (IsWholeCell usable) cells)
-    → length (found_cells usable at cells whole) ≡ length cells
+pub length-found_cells : (kind : Kind) (usable at : ℕ) (cells : List (List ℕ)) (whole : All (IsWholeCell kind usable) cells)
+    → length (found_cells kind usable at cells whole) ≡ length cells
 unfolding found_cells
-length-found_cells usable at [] whole = refl
-length-found_cells usable at (x ∷ xs) whole = ap suc (length-found_cells usable (at + room x) xs (All-tail (IsWholeCell usable) x xs whole))
+length-found_cells kind usable at [] whole = refl
+length-found_cells kind usable at (x ∷ xs) whole = ap suc (length-found_cells kind usable (at + room x) xs (All-tail (IsWholeCell kind usable) x xs whole))
 
 -- the cell that is found in place i is that of the given cell i
-pub record FoundAt (usable at : ℕ) (cells : List (List ℕ)) (i : ℕ) (c : Cell) : Type 0 where
+pub record FoundAt (kind : Kind) (usable at : ℕ) (cells : List (List ℕ)) (i : ℕ) (c : Cell) : Type 0 where
   pub bytes : List ℕ
-  pub whole : IsWholeCell usable bytes
+  pub whole : IsWholeCell kind usable bytes
   pub given : slice_get cells i ≡ Some bytes
-  pub is : c ≡ found_cell usable (at + rooms (take i cells)) bytes whole
+  pub is : c ≡ found_cell kind usable (at + rooms (take i cells)) bytes whole
 
-pub found_at : (usable at : ℕ) (cells : List (List ℕ)) (whole : All (IsWholeCell usable) cells) (i : ℕ) (c : Cell)
-    → slice_get (found_cells usable at cells whole) i ≡ Some c → FoundAt usable at cells i c
+pub found_at : (kind : Kind) (usable at : ℕ) (cells : List (List ℕ)) (whole : All (IsWholeCell kind usable) cells) (i : ℕ) (c : Cell)
+    → slice_get (found_cells kind usable at cells whole) i ≡ Some c → FoundAt kind usable at cells i c
 unfolding found_cells
-found_at usable at [] whole i c found = absurd (none c found)
+found_at kind usable at [] whole i c found = absurd (none c found)
   where
     none : (c : Cell) → ◌≡◌ {A = Option Cell} None (Some c) → ⊥
     none c e = cc
-found_at usable at (x ∷ xs) whole zero c found =
-    let w = All-head (IsWholeCell usable) x xs whole in
+found_at kind usable at (x ∷ xs) whole zero c found =
+    let w = All-head (IsWholeCell kind usable) x xs whole in
     record {
       bytes = x;
       whole = w;
       given = refl;
-      is = same_Some c (found_cell usable at x w) (sym found) ∙ ap (λ n. found_cell usable n x w) (omega arith);
+      is = same_Some c (found_cell kind usable at x w) (sym found) ∙ ap (λ n. found_cell kind usable n x w) (omega arith);
     }
-found_at usable at (x ∷ xs) whole (suc i) c found =
-    let f = found_at usable (at + room x) xs (All-tail (IsWholeCell usable) x xs whole) i c found in
+found_at kind usable at (x ∷ xs) whole (suc i) c found =
+    let f = found_at kind usable (at + room x) xs (All-tail (IsWholeCell kind usable) x xs whole) i c found in
     record {
       bytes = f.bytes;
       whole = f.whole;
       given = f.given;
-      is = f.is ∙ ap (λ n. found_cell usable n f.bytes f.whole) (omega (arith, rooms-cons x (take i xs)));
+      is = f.is ∙ ap (λ n. found_cell kind usable n f.bytes f.whole) (omega (arith, rooms-cons x (take i xs)));
     }
 
 -- cells of earlier places end before cell i begins
@@ -514,118 +599,149 @@ rooms_before (x ∷ xs) (suc j) (suc i) bytes less is =
     omega (arith, rooms-cons x (take i xs), rooms-cons x (take j xs), rooms_before xs j i bytes (omega arith) is)
 
 -- the page that a reader finds
-abbrev pub found_page : (usable : ℕ) (cells : List (List ℕ)) → All (IsWholeCell usable) cells → PageCells
-found_page usable cells whole = record {
-  kind = TableLeaf;
-  right = None;
-  cells = found_cells usable (content_start usable cells) cells whole;
+abbrev pub found_page : (kind : Kind) (right : Option ℕ) (usable : ℕ) (cells : List (List ℕ)) → All (IsWholeCell kind usable) cells → PageCells
+found_page kind right usable cells whole = record {
+  kind = kind;
+  right = right;
+  cells = found_cells kind usable (content_start usable cells) cells whole;
 }
 
 -- what the cell in place i of a written page is, and where it stands
-pub record WrittenCell (page : List ℕ) (first : Bool) (usable : ℕ) (cells : List (List ℕ)) (i : ℕ) (c : Cell) : Type 0 where
+pub record WrittenCell (page : List ℕ) (first : Bool) (kind : Kind) (right : Option ℕ) (usable : ℕ) (cells : List (List ℕ)) (i : ℕ) (c : Cell) : Type 0 where
   pub bytes : List ℕ
-  pub whole : IsWholeCell usable bytes
+  pub whole : IsWholeCell kind usable bytes
   pub given : slice_get cells i ≡ Some bytes
-  pub is : c ≡ found_cell usable (cell_place usable cells i) bytes whole
-  pub place : pointer page first i ≡ cell_place usable cells i
-  pub ends : cell_end usable c ≡ cell_place usable cells i + length bytes
+  pub is : c ≡ found_cell kind usable (cell_place usable cells i) bytes whole
+  pub place : pointer page first kind i ≡ cell_place usable cells i
+  pub ends : cell_end kind usable c ≡ cell_place usable cells i + length bytes
   pub bytes_there : take (length bytes) (drop (cell_place usable cells i) page) ≡ bytes
   pub local_part : take (c.end - c.start) (drop c.start page) ≡ whole.local_part
-  pub leaf : IsLeafCell page usable (pointer page first i) c
+  pub stands : IsCellAt page kind usable (pointer page first kind i) c
 
-pub written_cell : (old : List ℕ) (first : Bool) (usable : ℕ) (cells : List (List ℕ)) → IsUsable usable (length old) → Fits first usable cells
-    → (whole : All (IsWholeCell usable) cells) (i : ℕ) (c : Cell) → slice_get (found_page usable cells whole).cells i ≡ Some c
-    → WrittenCell (written_page old first usable cells) first usable cells i c
-written_cell old first usable cells u fits whole i c found =
-    let page = written_page old first usable cells in
-    let f = found_at usable (content_start usable cells) cells whole i c found in
+pub written_cell : (old : List ℕ) (first : Bool) (kind : Kind) (right : Option ℕ) (usable : ℕ) (cells : List (List ℕ)) → IsUsable usable (length old) → Fits first kind usable cells
+    → (whole : All (IsWholeCell kind usable) cells) (i : ℕ) (c : Cell) → slice_get (found_page kind right usable cells whole).cells i ≡ Some c
+    → WrittenCell (written_page old first kind right usable cells) first kind right usable cells i c
+written_cell old first kind right usable cells u fits whole i c found =
+    let page = written_page old first kind right usable cells in
+    let f = found_at kind usable (content_start usable cells) cells whole i c found in
     let at = cell_place usable cells i in
-    let place = pointer-written_page old first usable cells u fits i f.bytes f.given in
-    let there = cell-written_page old first usable cells u fits i f.bytes f.given in
-    let within : at ≤ length page = omega (arith, length-written_page old first usable cells u fits, u.within, rooms_at_cell cells i f.bytes f.given, fits) in
-    let stands = stands_at page usable at f.bytes there.0 f.whole within there.1 in
-    let c_is = found_cell usable at f.bytes f.whole in
+    let place = pointer-written_page old first kind right usable cells u fits i f.bytes f.given in
+    let there = cell-written_page old first kind right usable cells u fits i f.bytes f.given in
+    let within : at ≤ length page = omega (arith, length-written_page old first kind right usable cells u fits, u.within, rooms_at_cell cells i f.bytes f.given, fits) in
+    let stands = stands_at page kind usable at f.bytes there.0 f.whole within there.1 in
+    let c_is = found_cell kind usable at f.bytes f.whole in
     record {
       bytes = f.bytes;
       whole = f.whole;
       given = f.given;
       is = f.is;
       place = place;
-      ends = ap (cell_end usable) f.is ∙ cell_end-found usable at f.bytes f.whole;
+      ends = ap (cell_end kind usable) f.is ∙ cell_end-found kind usable at f.bytes f.whole;
       bytes_there = ap (take (length f.bytes)) there.1 ∙ take_at f.bytes there.0 (length f.bytes) refl;
       local_part =
           ap (λ (d : Cell). take (d.end - d.start) (drop d.start page)) f.is
           ∙ ap (λ n. take n (drop c_is.start page)) (omega arith)
           ∙ stands.local_part;
-      leaf = subst (λ p. IsLeafCell page usable p c) (sym place)
-          (subst (IsLeafCell page usable at) (sym f.is) (leaf_found page usable at f.bytes f.whole stands));
+      stands = subst (λ p. IsCellAt page kind usable p c) (sym place)
+          (subst (IsCellAt page kind usable at) (sym f.is) (cell_found page kind usable at f.bytes f.whole stands));
     }
 
 -- a reader finds the cells that were written
-pub cells-written_page : (old : List ℕ) (first : Bool) (usable : ℕ) (cells : List (List ℕ)) → IsUsable usable (length old) → Fits first usable cells
-    → (whole : All (IsWholeCell usable) cells) → AreCells (written_page old first usable cells) first usable (found_page usable cells whole).cells
-cells-written_page old first usable cells u fits whole i c found =
-    let page = written_page old first usable cells in
-    let all = (found_page usable cells whole).cells in
-    let w = written_cell old first usable cells u fits whole i c found in
+pub cells-written_page : (old : List ℕ) (first : Bool) (kind : Kind) (right : Option ℕ) (usable : ℕ) (cells : List (List ℕ)) → IsUsable usable (length old) → Fits first kind usable cells
+    → (whole : All (IsWholeCell kind usable) cells) → AreCells (written_page old first kind right usable cells) first kind usable (found_page kind right usable cells whole).cells
+cells-written_page old first kind right usable cells u fits whole i c found =
+    let page = written_page old first kind right usable cells in
+    let all = (found_page kind right usable cells whole).cells in
+    let w = written_cell old first kind right usable cells u fits whole i c found in
     let below = slice_get_within all i c found in
     let len : length (take i all) ≡ i = length-take-le i all (omega arith) in
-    let count = cell_count-written_page old first usable cells u fits in
+    let count = cell_count-written_page old first kind right usable cells u fits in
     let room = rooms_at_cell cells i w.bytes w.given in
     record {
-      leaf = subst (λ n. IsLeafCell page usable (pointer page first n) c) (sym len) w.leaf;
-      above = subst (λ n. pointers_end page first ≤ pointer page first n) (sym len) (omega (arith, w.place, count, fits));
+      stands = subst (λ n. IsCellAt page kind usable (pointer page first kind n) c) (sym len) w.stands;
+      above = subst (λ n. pointers_end page first kind ≤ pointer page first kind n) (sym len) (omega (arith, w.place, count, fits));
       below = omega (arith, w.ends, room, fits);
       apart = λ j d earlier.
           let before = slice_get-take all i j d earlier in
-          let v = written_cell old first usable cells u fits whole j d before.1 in
-          inl (subst (λ n. cell_end usable d ≤ pointer page first n) (sym len)
+          let v = written_cell old first kind right usable cells u fits whole j d before.1 in
+          inl (subst (λ n. cell_end kind usable d ≤ pointer page first kind n) (sym len)
           (omega (arith, v.ends, w.place, rooms_before cells j i v.bytes before.0 v.given)));
     }
 
-pub has_cells-written_page : (old : List ℕ) (first : Bool) (usable : ℕ) (cells : List (List ℕ)) → IsUsable usable (length old) → Fits first usable cells
-    → (whole : All (IsWholeCell usable) cells) → HasCells (written_page old first usable cells) first usable (found_page usable cells whole)
-has_cells-written_page old first usable cells u fits whole =
-    let count = cell_count-written_page old first usable cells u fits in
+pub has_cells-written_page : (old : List ℕ) (first : Bool) (kind : Kind) (right : Option ℕ) (usable : ℕ) (cells : List (List ℕ)) → IsUsable usable (length old) → Fits first kind usable cells
+    → IsChild kind right → (whole : All (IsWholeCell kind usable) cells) → HasCells (written_page old first kind right usable cells) first kind usable (found_page kind right usable cells whole)
+has_cells-written_page old first kind right usable cells u fits child whole =
+    let count = cell_count-written_page old first kind right usable cells u fits in
     record {
-      kind_byte = kind-written_page old first usable cells u fits;
-      kind = refl;
-      right = refl;
+      byte = kind-written_page old first kind right usable cells u fits;
+      of_kind = refl;
+      right = right-written_page old first kind right usable cells u fits child;
       room = omega (arith, count, fits);
-      count = length-found_cells usable (content_start usable cells) cells whole ∙ sym count;
-      cells = cells-written_page old first usable cells u fits whole;
+      count = length-found_cells kind usable (content_start usable cells) cells whole ∙ sym count;
+      cells = cells-written_page old first kind right usable cells u fits whole;
     }
 
-pub holds-written_page : (old : List ℕ) (first : Bool) (usable : ℕ) (cells : List (List ℕ)) → IsUsable usable (length old) → Fits first usable cells
-    → All (IsWholeCell usable) cells → HoldsCells (written_page old first usable cells) first usable cells
-holds-written_page old first usable cells u fits whole =
-    let page = written_page old first usable cells in
+pub holds-written_page : (old : List ℕ) (first : Bool) (kind : Kind) (right : Option ℕ) (usable : ℕ) (cells : List (List ℕ)) → IsUsable usable (length old) → Fits first kind usable cells
+    → IsChild kind right → All (IsWholeCell kind usable) cells → HoldsCells (written_page old first kind right usable cells) first kind right usable cells
+holds-written_page old first kind right usable cells u fits child whole =
+    let page = written_page old first kind right usable cells in
     record {
-      found = found_page usable cells whole;
-      has = has_cells-written_page old first usable cells u fits whole;
-      count = length-found_cells usable (content_start usable cells) cells whole;
+      found = found_page kind right usable cells whole;
+      has = has_cells-written_page old first kind right usable cells u fits child whole;
+      child = refl;
+      count = length-found_cells kind usable (content_start usable cells) cells whole;
       bytes = λ i c found.
-          let w = written_cell old first usable cells u fits whole i c found in
-          let size : cell_end usable c - pointer page first i ≡ length w.bytes = omega (arith, w.ends, w.place) in
+          let w = written_cell old first kind right usable cells u fits whole i c found in
+          let size : cell_end kind usable c - pointer page first kind i ≡ length w.bytes = omega (arith, w.ends, w.place) in
           w.given ∙ ap Some (sym (ap₂ (λ n p. take n (drop p page)) size w.place ∙ w.bytes_there));
     }
 
 -- two readings of one cell's bytes agree
-pub record SameWhole (usable : ℕ) (a b : List ℕ) (v : IsWholeCell usable a) (w : IsWholeCell usable b) : Type 0 where
+pub record SameWhole (kind : Kind) (usable : ℕ) (a b : List ℕ) (v : IsWholeCell kind usable a) (w : IsWholeCell kind usable b) : Type 0 where
+  pub left : v.left ≡ w.left
   pub payload : v.payload ≡ w.payload
   pub rowid : v.rowid ≡ w.rowid
   pub local_part : v.local_part ≡ w.local_part
   pub overflow_part : v.overflow_part ≡ w.overflow_part
 
-pub same_whole : (usable : ℕ) (a b : List ℕ) (v : IsWholeCell usable a) (w : IsWholeCell usable b) → a ≡ b → SameWhole usable a b v w
-same_whole usable a b v w same =
+one_number : (a b : Option ℕ) → IsSomeAnd a (λ page. page < 2 ^ 32) → IsSomeAnd b (λ page. page < 2 ^ 32) → number_bytes a ≡ number_bytes b → a ≡ b
+one_number None b h k e = absurd h
+one_number (Some a) None h k e = absurd k
+one_number (Some a) (Some b) h k e = ap Some (sym (big_number-big_bytes 4 a h) ∙ ap (big_number 4) e ∙ big_number-big_bytes 4 b k)
+
+one_left : (kind : Kind) (a b : Option ℕ) → IsChild kind a → IsChild kind b → child_bytes kind a ≡ child_bytes kind b → a ≡ b
+one_left IndexInner a b h k e = one_number a b h k e
+one_left TableInner a b h k e = one_number a b h k e
+one_left IndexLeaf a b h k e = h ∙ sym k
+one_left TableLeaf a b h k e = h ∙ sym k
+
+one_length_part : (kind : Kind) (a b x y : List ℕ) (m n : ℕ) → IsLengthPart kind a m → IsLengthPart kind b n → a ++ x ≡ b ++ y → (a ≡ b) × (m ≡ n)
+one_length_part IndexInner a b x y m n h k e = one_form a b x y m n h k e
+one_length_part TableInner a b x y m n h k e = (h.0 ∙ sym k.0, h.1 ∙ sym k.1)
+one_length_part IndexLeaf a b x y m n h k e = one_form a b x y m n h k e
+one_length_part TableLeaf a b x y m n h k e = one_form a b x y m n h k e
+
+one_rowid_part : (kind : Kind) (a b x y : List ℕ) (m n : ℕ) → IsRowidPart kind a m → IsRowidPart kind b n → a ++ x ≡ b ++ y → (a ≡ b) × (m ≡ n)
+one_rowid_part IndexInner a b x y m n h k e = (h.0 ∙ sym k.0, h.1 ∙ sym k.1)
+one_rowid_part TableInner a b x y m n h k e = one_form a b x y m n h k e
+one_rowid_part IndexLeaf a b x y m n h k e = (h.0 ∙ sym k.0, h.1 ∙ sym k.1)
+one_rowid_part TableLeaf a b x y m n h k e = one_form a b x y m n h k e
+
+pub same_whole : (kind : Kind) (usable : ℕ) (a b : List ℕ) (v : IsWholeCell kind usable a) (w : IsWholeCell kind usable b) → a ≡ b → SameWhole kind usable a b v w
+same_whole kind usable a b v w same =
     let all = sym v.whole ∙ same ∙ w.whole in
-    let length_same = one_form v.length_part w.length_part (v.rowid_part ++ (v.local_part ++ v.overflow_part)) (w.rowid_part ++ (w.local_part ++ w.overflow_part)) v.payload w.payload v.is_length w.is_length all in
-    let behind = rest_same v.length_part w.length_part (v.rowid_part ++ (v.local_part ++ v.overflow_part)) (w.rowid_part ++ (w.local_part ++ w.overflow_part)) length_same.0 all in
-    let rowid_same = one_form v.rowid_part w.rowid_part (v.local_part ++ v.overflow_part) (w.local_part ++ w.overflow_part) v.rowid w.rowid v.is_rowid w.is_rowid behind in
+    let v_row = v.rowid_part ++ (v.local_part ++ v.overflow_part) in
+    let w_row = w.rowid_part ++ (w.local_part ++ w.overflow_part) in
+    let child_same = same_front (child_bytes kind v.left) (child_bytes kind w.left) (v.length_part ++ v_row) (w.length_part ++ w_row) all
+    (length-child_bytes kind v.left ∙ sym (length-child_bytes kind w.left)) in
+    let after = rest_same (child_bytes kind v.left) (child_bytes kind w.left) (v.length_part ++ v_row) (w.length_part ++ w_row) child_same all in
+    let length_same = one_length_part kind v.length_part w.length_part v_row w_row v.payload w.payload v.is_length w.is_length after in
+    let behind = rest_same v.length_part w.length_part v_row w_row length_same.0 after in
+    let rowid_same = one_rowid_part kind v.rowid_part w.rowid_part (v.local_part ++ v.overflow_part) (w.local_part ++ w.overflow_part) v.rowid w.rowid v.is_rowid w.is_rowid behind in
     let parts = rest_same v.rowid_part w.rowid_part (v.local_part ++ v.overflow_part) (w.local_part ++ w.overflow_part) rowid_same.0 behind in
-    let local_same = same_front v.local_part w.local_part v.overflow_part w.overflow_part parts (v.local ∙ ap (local_payload usable) length_same.1 ∙ sym w.local) in
+    let local_same = same_front v.local_part w.local_part v.overflow_part w.overflow_part parts (v.local ∙ ap (local_payload kind usable) length_same.1 ∙ sym w.local) in
     record {
+      left = one_left kind v.left w.left v.is_left w.is_left child_same;
       payload = length_same.1;
       rowid = rowid_same.1;
       local_part = local_same;
@@ -636,32 +752,34 @@ same_whole usable a b v w same =
     rest_same a b x y same e = append_cancel_left a x y (e ∙ ap (λ l. l ++ y) (sym same))
 
 -- what a reader finds of a whole cell in a page
-pub record ReadsBack (page : List ℕ) (usable : ℕ) (bytes : List ℕ) (w : IsWholeCell usable bytes) (c : Cell) : Type 0 where
+pub record ReadsBack (page : List ℕ) (kind : Kind) (usable : ℕ) (bytes : List ℕ) (w : IsWholeCell kind usable bytes) (c : Cell) : Type 0 where
+  pub left : c.left ≡ w.left
   pub payload : c.payload ≡ w.payload
-  pub rowid : c.rowid ≡ Some (cast_signed w64 w.rowid)
+  pub rowid : c.rowid ≡ rowid_of kind w.rowid
   pub local_part : take (c.end - c.start) (drop c.start page) ≡ w.local_part
-  pub overflow : c.overflow ≡ (if nat_lt (local_payload usable w.payload) w.payload then Some (big_number 4 w.overflow_part) else None)
+  pub overflow : c.overflow ≡ (if nat_lt (local_payload kind usable w.payload) w.payload then Some (big_number 4 w.overflow_part) else None)
 
 -- each given cell is found in its place
-pub reads_back : (old : List ℕ) (first : Bool) (usable : ℕ) (cells : List (List ℕ)) → IsUsable usable (length old) → Fits first usable cells
-    → (whole : All (IsWholeCell usable) cells) (i : ℕ) (bytes : List ℕ) → slice_get cells i ≡ Some bytes → (w : IsWholeCell usable bytes)
-    → (c : Cell) × (slice_get (found_page usable cells whole).cells i ≡ Some c) × ReadsBack (written_page old first usable cells) usable bytes w c
-reads_back old first usable cells u fits whole i bytes given w =
-    let all = (found_page usable cells whole).cells in
-    let some = found_cell usable (cell_place usable cells i) bytes w in
-    let count = length-found_cells usable (content_start usable cells) cells whole in
+pub reads_back : (old : List ℕ) (first : Bool) (kind : Kind) (right : Option ℕ) (usable : ℕ) (cells : List (List ℕ)) → IsUsable usable (length old) → Fits first kind usable cells
+    → (whole : All (IsWholeCell kind usable) cells) (i : ℕ) (bytes : List ℕ) → slice_get cells i ≡ Some bytes → (w : IsWholeCell kind usable bytes)
+    → (c : Cell) × (slice_get (found_page kind right usable cells whole).cells i ≡ Some c) × ReadsBack (written_page old first kind right usable cells) kind usable bytes w c
+reads_back old first kind right usable cells u fits whole i bytes given w =
+    let all = (found_page kind right usable cells whole).cells in
+    let some = found_cell kind usable (cell_place usable cells i) bytes w in
+    let count = length-found_cells kind usable (content_start usable cells) cells whole in
     let c = get_or all i some in
     let found : slice_get all i ≡ Some c = slice_get-get_or all i some (omega (arith, count, slice_get_within cells i bytes given)) in
-    let v = written_cell old first usable cells u fits whole i c found in
-    let same = same_whole usable v.bytes bytes v.whole w (same_Some v.bytes bytes (sym v.given ∙ given)) in (
+    let v = written_cell old first kind right usable cells u fits whole i c found in
+    let same = same_whole kind usable v.bytes bytes v.whole w (same_Some v.bytes bytes (sym v.given ∙ given)) in (
       c,
       found,
       record {
+        left = ap (λ (d : Cell). d.left) v.is ∙ same.left;
         payload = ap (λ (d : Cell). d.payload) v.is ∙ same.payload;
-        rowid = ap (λ (d : Cell). d.rowid) v.is ∙ ap (λ n. Some (cast_signed w64 n)) same.rowid;
+        rowid = ap (λ (d : Cell). d.rowid) v.is ∙ ap (rowid_of kind) same.rowid;
         local_part = v.local_part ∙ same.local_part;
         overflow =
             ap (λ (d : Cell). d.overflow) v.is
-            ∙ ap₂ (λ p o. if nat_lt (local_payload usable p) p then Some (big_number 4 o) else None) same.payload same.overflow_part;
+            ∙ ap₂ (λ p o. if nat_lt (local_payload kind usable p) p then Some (big_number 4 o) else None) same.payload same.overflow_part;
       },
     )

@@ -1,4 +1,5 @@
 pub mod Cells
+pub mod Errors
 pub mod Layout
 pub mod Taken
 pub mod Write

@@ -1,9 +1,15 @@
 ghost use Rattle.std.specs.Prelude.{◌≡◌, ◌≤◌, ◌<◌, ◌+◌, length, drop};
 ghost use Rattle.byteorder.specs.Endian.{big_number};
-ghost use Rattle.page_cells.specs.Layout.{header_start, local_payload};
+ghost use Rattle.page_cells.specs.Layout.{header_start, least_usable, local_payload, most_usable};
 
 use crate::Kind;
-use byteorder::{BigEndian, ByteOrder};
+use alter_bytes::u16_at;
+
+/// Where the number of cells stands in a page's own header.
+pub const COUNT_AT: usize = 3;
+
+/// The length in bytes of a pointer to a cell.
+pub const POINTER_LEN: usize = 2;
 
 /// Where the page's own header begins: page 1 has the file's header in front of it.
 pub fn header_at(first: bool) -> usize
@@ -16,18 +22,18 @@ pub fn header_at(first: bool) -> usize
 pub fn number_at(page: &[u8], at: usize) -> usize
     requires { at + 2 ≤ length page.now }
     ensures number { result ≡ big_number 2 (drop at page.now) }
-    ensures small { result < 65536 }
+    ensures small { result < most_usable }
 {
-    usize::from(BigEndian::read_u16(&page[at..]))
+    usize::from(u16_at(page, at))
 }
 
 /// How many bytes of a payload stand in a cell itself, of a leaf page of a table tree
 /// (fileformat2.html, "B-tree Cell Format"). `usable` is the size of a page less its reserved bytes.
 pub fn local_len(kind: Kind, usable: u32, payload: u64) -> u64
     requires leaf { kind ≡ Kind.TableLeaf }
-    requires least { 480 ≤ usable }
-    requires most { usable ≤ 65536 }
-    ensures { result ≡ local_payload usable payload }
+    requires least { least_usable ≤ usable }
+    requires most { usable ≤ most_usable }
+    ensures { result ≡ local_payload kind usable payload }
 {
     prove!(kind == Kind::TableLeaf);
     let usable = u64::from(usable);

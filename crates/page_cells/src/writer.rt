@@ -1,34 +1,28 @@
-ghost use Rattle.std.specs.Prelude.{◌≡◌, ◌≤◌, ◌<◌, ◌+◌, ◌-◌, ◌*◌, ◌++◌, ◌%◌, ◌↔◌, length, replicate, IsTrue, All};
+ghost use Rattle.std.specs.Prelude.{◌≡◌, ◌≤◌, ◌<◌, ◌+◌, ◌-◌, ◌*◌, ◌++◌, ◌%◌, ◌↔◌, length, replicate, IsTrue, All, None};
 ghost use Rattle.alter_bytes.specs.Field.{overlaid};
-ghost use Rattle.page_cells.specs.Layout.{IsUsable};
+ghost use Rattle.page_cells.specs.Layout.{IsUsable, least_usable, most_usable};
 ghost use Rattle.page_cells.specs.Write.{Fits, HoldsCells, IsWholeCell, cell_bytes, header_bytes, pointer_bytes, room, rooms, written_page};
 
 use crate::Kind;
-use crate::layout::header_at;
+use crate::layout::{POINTER_LEN, header_at};
 use alter_bytes::{Bytes, write_u16};
-
-/// The first byte of a leaf page of a table tree.
-const TABLE_LEAF: u8 = 13;
-
-/// The length in bytes of a leaf page's own header.
-const HEADER_LEN: usize = 8;
-
-/// The length in bytes of a pointer to a cell.
-const POINTER_LEN: usize = 2;
 
 /// The fewest bytes that a cell takes of its page.
 const LEAST_ROOM: usize = 4;
+
+/// The first size of a page that two bytes do not hold; they hold 0 for it.
+const MOST_USABLE: usize = 65536;
 
 /// Whether a leaf page of a table tree has room for its header, these whole cells and their pointers.
 /// `first` says that it is page 1, and `usable` is the size of a page less its reserved bytes.
 pub fn fits(first: bool, usable: usize, kind: Kind, cells: &[Bytes]) -> bool
     requires leaf { kind ≡ Kind.TableLeaf }
-    requires least { 480 ≤ usable }
-    requires most { usable ≤ 65536 }
-    ensures { IsTrue result ↔ Fits first usable cells.now }
+    requires least { least_usable ≤ usable }
+    requires most { usable ≤ most_usable }
+    ensures { IsTrue result ↔ Fits first kind usable cells.now }
 {
     prove!(kind == Kind::TableLeaf);
-    let mut free = usable - header_at(first) - HEADER_LEN;
+    let mut free = usable - header_at(first) - kind.header_len();
     for cell in cells {
         let room = room_of(cell);
         if free < POINTER_LEN || free - POINTER_LEN < room {
@@ -52,17 +46,17 @@ pub fn write_page(
     requires leaf { kind ≡ Kind.TableLeaf }
     requires no_right { right ≡ None }
     requires usable { IsUsable usable (length page.old) }
-    requires whole { All (IsWholeCell usable) cells.now }
-    requires fits { Fits first usable cells.now }
-    ensures written { page.new ≡ written_page page.old first usable cells.now }
-    ensures cells { HoldsCells page.new first usable cells.now }
+    requires whole { All (IsWholeCell kind usable) cells.now }
+    requires fits { Fits first kind usable cells.now }
+    ensures written { page.new ≡ written_page page.old first kind right usable cells.now }
+    ensures cells { HoldsCells page.new first kind right usable cells.now }
 {
     prove!(kind == Kind::TableLeaf && right.is_none());
     let header = header_at(first);
-    let pointers = header + HEADER_LEN;
+    let pointers = header + kind.header_len();
     let free = pointers + POINTER_LEN * cells.len();
     let content = usable - total_room(cells);
-    write_header(page, header, cells.len(), content);
+    write_header(page, header, kind, cells.len(), content);
     write_pointers(page, pointers, content, cells);
     clear(page, free, content);
     write_cells(page, content, cells);
@@ -77,28 +71,29 @@ fn room_of(cell: &Bytes) -> usize
 
 /// The bytes that the cells take of their page.
 fn total_room(cells: &[Bytes]) -> usize
-    requires { rooms cells.now ≤ 65536 }
+    requires { rooms cells.now ≤ most_usable }
     ensures { result ≡ rooms cells.now }
 {
     cells.iter().map(|cell| room_of(cell)).sum()
 }
 
 /// Writes the page's own header at `at`, for cells that begin at `content`.
-fn write_header(page: &mut [u8], at: usize, count: usize, content: usize)
+fn write_header(page: &mut [u8], at: usize, kind: Kind, count: usize, content: usize)
+    requires leaf { kind ≡ Kind.TableLeaf }
     requires room { at + 8 ≤ length page.old }
-    requires few { count < 65536 }
-    ensures { page.new ≡ overlaid page.old at (header_bytes count content) }
+    requires few { count < most_usable }
+    ensures { page.new ≡ overlaid page.old at (header_bytes kind None count content) }
 {
-    let mut bytes = [TABLE_LEAF, 0, 0, 0, 0, 0, 0, 0];
+    let mut bytes = [kind.byte(), 0, 0, 0, 0, 0, 0, 0];
     write_u16(&mut bytes, 3, count as u16);
-    write_u16(&mut bytes, 5, (content % 65536) as u16);
+    write_u16(&mut bytes, 5, (content % MOST_USABLE) as u16);
     write_bytes(page, at, &bytes);
 }
 
 /// Writes the pointers at `at`, to cells that stand one after the other from `content` on.
 fn write_pointers(page: &mut [u8], at: usize, content: usize, cells: &[Bytes])
     requires room { at + 2 * length cells.now ≤ length page.old }
-    requires below { content + rooms cells.now ≤ 65536 }
+    requires below { content + rooms cells.now ≤ most_usable }
     ensures { page.new ≡ overlaid page.old at (pointer_bytes content cells.now) }
 {
     let mut place = at;

@@ -7,6 +7,6 @@ use Rattle.page_cells.proofs.reader.read_cells.Given as goal
 abbrev pub invariant-loop-i : goal.invariant-loop-i
 invariant-loop-i l = record {
   count : length l.cells.items ≡ l.i;
-  cells : AreCells l.page l.first l.usable l.cells.items;
-  marks : Marks l.page l.first l.usable l.cells.items l.taken;
+  cells : AreCells l.page l.first l.kind l.usable l.cells.items;
+  marks : Marks l.page l.first l.kind l.usable l.cells.items l.taken;
 }
