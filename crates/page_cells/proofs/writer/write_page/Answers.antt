@@ -1,7 +1,8 @@
 use Rattle.std.proofs.Common.{ap, subst, sym, ◌-◌, ◌∙◌, length}
 use Rattle.alter_bytes.specs.Field.{overlaid}
 use Rattle.page_cells.specs.Write.{HoldsCells, IsChild, header_bytes}
-use Rattle.page_cells.proofs.WriteLemmas.{holds-written_page, page_written}
+use Rattle.page_cells.proofs.FoundLemmas.{holds-written_page}
+use Rattle.page_cells.proofs.WriteLemmas.{page_written}
 use Rattle.page_cells.proofs.writer.write_page.Goals as goal
 
 pub returns-clause-written : goal.returns-clause-written
