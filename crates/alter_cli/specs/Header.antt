@@ -49,7 +49,14 @@ pub record HasServedFields (header : List ℕ) : Type 0 where
   pub encoding : number_at 4 56 header ≤ 1
   pub vacuum : number_at 4 64 header ≡ 0
 
--- the header of a file that is served so far, of this length: whole pages, at most 65,536 of them and 2^28 bytes
+-- the most pages and the most bytes of a file that is served so far
+abbrev pub most_pages : ℕ
+most_pages = 65536
+
+abbrev pub most_bytes : ℕ
+most_bytes = 2 ^ 28
+
+-- the header of a file that is served so far, of this length: whole pages, neither too many nor too long
 pub record IsHeader (header : List ℕ) (file_length : ℕ) : Type 0 where
   pub whole : 100 ≤ file_length
   pub size : IsTrue (is_page_size (page_size header))
@@ -57,8 +64,8 @@ pub record IsHeader (header : List ℕ) (file_length : ℕ) : Type 0 where
   pub fixed : HasFixedBytes header
   pub served : HasServedFields header
   pub some : 0 < page_count header file_length
-  pub few : page_count header file_length ≤ 65536
-  pub small : page_count header file_length * page_size header ≤ 2 ^ 28
+  pub few : page_count header file_length ≤ most_pages
+  pub small : page_count header file_length * page_size header ≤ most_bytes
   pub exact : file_length ≡ page_count header file_length * page_size header
 
 -- the header with a number of n bytes put at this offset

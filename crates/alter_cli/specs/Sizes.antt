@@ -1,7 +1,7 @@
 -- The sizes that a header gives.
-use Rattle.std.specs.Prelude.{◌≡◌, ◌≤◌, ◌<◌, ◌*◌, ◌^◌, ℕ, List}
+use Rattle.std.specs.Prelude.{◌≡◌, ◌≤◌, ◌<◌, ◌*◌, ℕ, List}
 use Rattle.alter_cli.specs.declared.header.Sizes.{Sizes}
-use Rattle.alter_cli.specs.Header.{page_size, usable_size, page_count}
+use Rattle.alter_cli.specs.Header.{most_bytes, most_pages, page_count, page_size, usable_size}
 
 -- these are the sizes of a file with this header, of this length
 pub record HasSizes (header : List ℕ) (file_length : ℕ) (sizes : Sizes) : Type 0 where
@@ -16,5 +16,5 @@ pub record AreSound (sizes : Sizes) : Type 0 where
   pub header : 512 ≤ sizes.page
   pub page : sizes.page ≤ 65536
   pub some : 0 < sizes.count
-  pub few : sizes.count ≤ 65536
-  pub small : sizes.count * sizes.page ≤ 2 ^ 28
+  pub few : sizes.count ≤ most_pages
+  pub small : sizes.count * sizes.page ≤ most_bytes
