@@ -1,9 +1,10 @@
 -- What a command that is done makes of an image and of its files.
-use Rattle.std.proofs.Common.{◌≡◌, ◌<◌, ◌≤◌, ℕ, suc, ◌-◌, ◌*◌, ◌/◌, true, Option, IsSomeAnd, List, [], ◌∷◌, ◌++◌, length, map, take, drop, refl, sym, ◌∙◌, ap, ap₂, subst, arith, length-append, length-drop}
+use Rattle.std.proofs.Common.{◌≡◌, ◌<◌, ◌≤◌, ℕ, suc, ◌-◌, ◌*◌, ◌/◌, true, Option, IsSomeAnd, List, [], ◌∷◌, ◌++◌, length, map, take, drop, refl, sym, ◌∙◌, ap, ap₂, subst, arith, length-append, length-drop, None}
 use Rattle.std.proofs.Math.Nat.{mul-div_cancel}
 use Rattle.std.proofs.lemmas.List.{length-take-le, take_at}
 use Rattle.std.specs.List.{AllByRecursion, slice_get}
 use Rattle.alter_disk.specs.Files.{Files}
+use Rattle.page_cells.specs.declared.kind.Kind.TheVariants.{TableLeaf}
 use Rattle.page_cells.specs.Layout.{IsUsable}
 use Rattle.page_cells.specs.Write.{written_page}
 use Rattle.page_cells.specs.declared.cell.Cell.{Cell}
@@ -28,7 +29,7 @@ old_page image = committed (length image) 3 (header_of image) ++ drop 100 (first
 
 -- page 1 with a committed header and the cells of these rows
 abbrev pub new_page : Image → List SchemaRow → Page
-new_page image rows = written_page (old_page image) true (usable_size (header_of image)) (map row_cell rows)
+new_page image rows = written_page (old_page image) true TableLeaf None (usable_size (header_of image)) (map row_cell rows)
 
 -- the image with another page 1
 abbrev pub new_image : Image → List SchemaRow → Image
@@ -96,10 +97,10 @@ is_new_page image rows sound room =
     let head = committed (length image) 3 (header_of image) in
     let usable = usable_size (header_of image) in
     let header : take 100 (new_page image rows) ≡ head =
-    take-written_page (old_page image) true usable (map row_cell rows) sound.usable room.fits
+    take-written_page (old_page image) true TableLeaf None usable (map row_cell rows) sound.usable room.fits
     ∙ take_at head (drop 100 (first_page image)) 100 (length-committed (length image) (header_of image) sound.header) in
     record {
-      extent = length-written_page (old_page image) true usable (map row_cell rows) sound.usable room.fits ∙ sound.extent;
+      extent = length-written_page (old_page image) true TableLeaf None usable (map row_cell rows) sound.usable room.fits ∙ sound.extent;
       header = header;
       size = ap page_size header ∙ page_size-committed (length image) (header_of image) sound.header;
       usable = ap usable_size header ∙ usable_size-committed (length image) (header_of image) sound.header;

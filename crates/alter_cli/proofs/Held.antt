@@ -9,6 +9,7 @@ use Rattle.std.specs.Int.{w64}
 use Rattle.std.specs.List.{AllByRecursion, list_all, slice_get}
 use Rattle.std.specs.Option.{option_map}
 use Rattle.byteorder.specs.Endian.{big_number}
+use Rattle.page_cells.specs.declared.kind.Kind.TheVariants.{TableLeaf}
 use Rattle.page_cells.specs.Layout.{IsUsable, local_payload, pointer_place}
 use Rattle.page_cells.specs.Write.{Fits, IsWholeCell, rooms, written_page}
 use Rattle.page_cells.specs.declared.cell.Cell.{Cell}
@@ -54,25 +55,25 @@ writable usable (row ∷ rows) most numbered roots local =
 -- rows that have room on page 1
 pub record HaveRoom (usable : ℕ) (rows : List SchemaRow) : Type 0 where
   pub local : are_local usable rows ≡ true
-  pub fits : Fits true usable (map row_cell rows)
+  pub fits : Fits true TableLeaf usable (map row_cell rows)
 
 -- what is built has room
 pub have_room : (usable : ℕ) (rows : List SchemaRow) → is_built usable rows ≡ true → HaveRoom usable rows
 have_room usable rows built =
-    let room = pointer_place true (length rows) + rooms (map row_cell rows) in
+    let room = pointer_place true TableLeaf (length rows) + rooms (map row_cell rows) in
     let parts = and_parts (are_local usable rows) (nat_le room usable) built in
     let within = leb-true room usable parts.1 in
     record { local = parts.0; fits = omega (arith, length-map rows row_cell) }
 
 -- the cell of a row that is written whole
-abbrev cell_of : (usable : ℕ) (row : SchemaRow) → IsWritable usable row → IsWholeCell usable (row_cell row)
+abbrev cell_of : (usable : ℕ) (row : SchemaRow) → IsWritable usable row → IsWholeCell TableLeaf usable (row_cell row)
 cell_of usable row is = whole_row usable row is.small (omega (arith, is.numbered)) is.local
 
 -- the cells of rows that are written whole are whole
-whole_cells : (usable : ℕ) (rows : List SchemaRow) → AllByRecursion (IsWritable usable) rows → All (IsWholeCell usable) (map row_cell rows)
-whole_cells usable [] are = All-nil (IsWholeCell usable)
+whole_cells : (usable : ℕ) (rows : List SchemaRow) → AllByRecursion (IsWritable usable) rows → All (IsWholeCell TableLeaf usable) (map row_cell rows)
+whole_cells usable [] are = All-nil (IsWholeCell TableLeaf usable)
 whole_cells usable (row ∷ rows) are =
-    All-cons (IsWholeCell usable) (row_cell row) (map row_cell rows) (cell_of usable row are.0) (whole_cells usable rows are.1)
+    All-cons (IsWholeCell TableLeaf usable) (row_cell row) (map row_cell rows) (cell_of usable row are.0) (whole_cells usable rows are.1)
 
 -- cells that hold the rows at the same indices
 hold_rows : (page : List ℕ) (cells : List Cell) (rows : List SchemaRow) → length cells ≡ length rows
@@ -86,40 +87,40 @@ hold_rows page (cell ∷ cells) [] same at = absurd (omega arith)
 
 -- the cell at each index holds the row
 holds_row : (old : List ℕ) (usable : ℕ) (rows : List SchemaRow) → IsUsable usable (length old) → (are : AllByRecursion (IsWritable usable) rows)
-    → Fits true usable (map row_cell rows) → (i : ℕ) (cell : Cell) (row : SchemaRow)
-    → slice_get (found_page usable (map row_cell rows) (whole_cells usable rows are)).cells i ≡ Some cell → slice_get rows i ≡ Some row
-    → HoldsRow (written_page old true usable (map row_cell rows)) cell row
+    → Fits true TableLeaf usable (map row_cell rows) → (i : ℕ) (cell : Cell) (row : SchemaRow)
+    → slice_get (found_page TableLeaf None usable (map row_cell rows) (whole_cells usable rows are)).cells i ≡ Some cell → slice_get rows i ≡ Some row
+    → HoldsRow (written_page old true TableLeaf None usable (map row_cell rows)) cell row
 holds_row old usable rows u are fits i cell row found is =
     let cells = map row_cell rows in
-    let page = written_page old true usable cells in
+    let page = written_page old true TableLeaf None usable cells in
     let size = length (row_record row) in
     let one = at_index (IsWritable usable) rows i row are is in
     let w = cell_of usable row one in
     let given : slice_get cells i ≡ Some (row_cell row) = slice_get-map row_cell rows i ∙ ap (option_map row_cell) is in
-    let (c, at, read) = reads_back old true usable cells u fits (whole_cells usable rows are) i (row_cell row) given w in
+    let (c, at, read) = reads_back old true TableLeaf None usable cells u fits (whole_cells usable rows are) i (row_cell row) given w in
     let same : c ≡ cell = same_Some c cell (sym at ∙ found) in
-    let inside : nat_lt (local_payload usable size) size ≡ false =
-    le-ltb (local_payload usable size) size (omega (arith, local_payload-whole usable size one.local)) in
+    let inside : nat_lt (local_payload TableLeaf usable size) size ≡ false =
+    le-ltb (local_payload TableLeaf usable size) size (omega (arith, local_payload-whole TableLeaf usable size one.local)) in
     let numbered = one.numbered in
     let held : HoldsRow page c row = record {
       rowid = read.rowid ∙ ap Some (to_z_pos w64 row.rowid (omega arith));
       numbered = numbered;
-      local = read.overflow ∙ cond-false (nat_lt (local_payload usable size) size) (Some (big_number 4 [])) None inside;
+      local = read.overflow ∙ cond-false (nat_lt (local_payload TableLeaf usable size) size) (Some (big_number 4 [])) None inside;
       payload = subst (λ (l : List ℕ). IsRecord l (row_values row)) (sym read.local_part) (row_record-is row one.small);
     } in
     subst (λ (d : Cell). HoldsRow page d row) same held
 
 -- the page holds the rows that were written
 pub holds_rows : (old : List ℕ) (usable : ℕ) (rows : List SchemaRow) → IsUsable usable (length old) → AllByRecursion (IsWritable usable) rows
-    → Fits true usable (map row_cell rows) → HoldsRows (written_page old true usable (map row_cell rows)) usable rows
+    → Fits true TableLeaf usable (map row_cell rows) → HoldsRows (written_page old true TableLeaf None usable (map row_cell rows)) usable rows
 holds_rows old usable rows u are fits =
     let cells = map row_cell rows in
     let whole = whole_cells usable rows are in
-    let page = written_page old true usable cells in
-    let found = (found_page usable cells whole).cells in
-    let many : length found ≡ length rows = length-found_cells usable (content_start usable cells) cells whole ∙ length-map rows row_cell in
+    let page = written_page old true TableLeaf None usable cells in
+    let found = (found_page TableLeaf None usable cells whole).cells in
+    let many : length found ≡ length rows = length-found_cells TableLeaf usable (content_start usable cells) cells whole ∙ length-map rows row_cell in
     record {
       cells = found;
-      leaf = has_cells-written_page old true usable cells u fits whole;
+      leaf = has_cells-written_page old true TableLeaf None usable cells u fits refl whole;
       held = hold_rows page found rows many (holds_row old usable rows u are fits);
     }

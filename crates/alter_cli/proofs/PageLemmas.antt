@@ -2,6 +2,7 @@
 use Rattle.std.proofs.Common.{◌≡◌, ◌≤◌, ◌<◌, ℕ, zero, suc, ◌+◌, ◌^◌, true, Some, Option, None, List, [], ◌∷◌, ◌++◌, length, get_or, take, refl, sym, ◌∙◌, ap, subst, arith, IsSomeAnd}
 use Rattle.std.proofs.lemmas.List.{take_all, take_more}
 use Rattle.std.specs.List.{AllByRecursion, slice_get}
+use Rattle.page_cells.specs.declared.kind.Kind.TheVariants.{TableLeaf}
 use Rattle.page_cells.specs.declared.cell.Cell.{Cell}
 use Rattle.page_cells.specs.declared.cell.PageCells.{PageCells}
 use Rattle.page_cells.specs.Cells.{HasCells}
@@ -11,15 +12,15 @@ use Rattle.alter_cli.specs.FirstPage.{HoldsRow, HoldRows, IsOnPage, leaf_of}
 use Rattle.common_laws.proofs.Each.{all_from_get}
 
 -- the cells lie on the page
-pub within : (page : List ℕ) (usable : ℕ) (cells : List Cell) → IsUsable usable (length page) → HasCells page true usable (leaf_of cells)
+pub within : (page : List ℕ) (usable : ℕ) (cells : List Cell) → IsUsable usable (length page) → HasCells page true TableLeaf usable (leaf_of cells)
     → AllByRecursion (IsOnPage page) cells
 within page usable cells size has = all_from_get (IsOnPage page) cells on
   where
     on : (i : ℕ) (c : Cell) → slice_get cells i ≡ Some c → IsOnPage page c
     on i c at =
         let next = has.cells i c at in
-        let start = next.leaf.start in
-        let end = next.leaf.end in
+        let start = next.stands.start in
+        let end = next.stands.end in
         let below = next.below in
         let most = size.within in
         record { start = omega arith; end = omega arith }
@@ -101,10 +102,10 @@ first_all page cells i rows list first all small held =
     sym (first list small held) ∙ take_all i list (omega arith)
 
 -- what has cells is a leaf page of them
-pub as_leaf : (page : List ℕ) (usable : ℕ) (found : PageCells) → HasCells page true usable found → HasCells page true usable (leaf_of found.cells)
+pub as_leaf : (page : List ℕ) (usable : ℕ) (found : PageCells) → HasCells page true TableLeaf usable found → HasCells page true TableLeaf usable (leaf_of found.cells)
 as_leaf page usable found has = record {
-  kind_byte = has.kind_byte;
-  kind = refl;
+  byte = has.byte;
+  of_kind = refl;
   right = refl;
   room = has.room;
   count = has.count;

@@ -2,6 +2,7 @@
 use Rattle.std.proofs.Common.{◌≡◌, ℕ, Bool, true, false, nat_le, if◌then◌else◌, Option, Some, None, List, ◌++◌, ◌*◌, length, map, take, drop, refl, sym, ◌∙◌, ap, ap₂, subst}
 use Rattle.std.specs.List.{find}
 use Rattle.alter_disk.specs.Files.{Files}
+use Rattle.page_cells.specs.declared.kind.Kind.TheVariants.{TableLeaf}
 use Rattle.page_cells.specs.Write.{written_page}
 use Rattle.plain_sql.specs.Script.{IsPlainCommand}
 use Rattle.plain_sql.specs.declared.script.Command.{Command}
@@ -29,8 +30,8 @@ use Rattle.alter_cli.proofs.Tables.{unbroken}
 
 -- page 1 after the command, by equal numbers
 same_page : (count n usable u : ℕ) (page p : List ℕ) (rows : List SchemaRow) → count ≡ n → usable ≡ u → page ≡ p
-    → written_page (committed count 3 (take 100 page) ++ drop 100 page) true usable (map row_cell rows)
-    ≡ written_page (committed n 3 (take 100 p) ++ drop 100 p) true u (map row_cell rows)
+    → written_page (committed count 3 (take 100 page) ++ drop 100 page) true TableLeaf None usable (map row_cell rows)
+    ≡ written_page (committed n 3 (take 100 p) ++ drop 100 p) true TableLeaf None u (map row_cell rows)
 same_page count n usable u page p rows a b c = rw (a, b, c) refl
 
 -- what one command makes of an image and of its files, and that each form after it is of the new image

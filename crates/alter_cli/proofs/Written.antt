@@ -1,9 +1,10 @@
 -- The cells of rows as they are written, and the page that holds them.
-use Rattle.std.proofs.Common.{◌≡◌, ◌<◌, ◌≤◌, ℕ, ◌+◌, ◌-◌, ◌^◌, Bool, true, false, ◌&&◌, nat_le, List, [], ◌∷◌, ◌++◌, length, map, take, drop, get_or, length-drop, refl, sym, ◌∙◌, ap, ap₂, subst, arith, append-nil, append_assoc}
+use Rattle.std.proofs.Common.{◌≡◌, ◌<◌, ◌≤◌, ℕ, ◌+◌, ◌-◌, ◌^◌, Bool, true, false, ◌&&◌, nat_le, List, [], ◌∷◌, ◌++◌, length, map, take, drop, get_or, length-drop, refl, sym, ◌∙◌, ap, ap₂, subst, arith, append-nil, append_assoc, None}
 use Rattle.std.proofs.Math.Bool.{and-true}
 use Rattle.std.proofs.lemmas.Bool.{and_from, le-leb}
 use Rattle.std.proofs.lemmas.List.{drop-drop, drop-map, get_or-map, length-map, map-append, take-map, take_all}
 use Rattle.std.proofs.lemmas.List.Folds.{list_all-append, list_all_at}
+use Rattle.page_cells.specs.declared.kind.Kind.TheVariants.{TableLeaf}
 use Rattle.page_cells.specs.Layout.{pointer_place}
 use Rattle.page_cells.specs.Write.{Fits, IsWholeCell, rooms}
 use Rattle.page_cells.proofs.LayoutLemmas.{local_payload-whole, overflow_size-none}
@@ -21,11 +22,12 @@ regroup a b c = simp (append_assoc, append-nil)
 
 -- the cell of a row whose record is all local is whole
 abbrev pub whole_row : (usable : ℕ) (row : SchemaRow) → IsSmall row → row.rowid < 2 ^ 64 → length (row_record row) ≤ usable - 35
-    → IsWholeCell usable (row_cell row)
+    → IsWholeCell TableLeaf usable (row_cell row)
 whole_row usable row small id fits =
     let leaf = row_cell-is row small id in
-    let local = local_payload-whole usable (length (row_record row)) fits in
+    let local = local_payload-whole TableLeaf usable (length (row_record row)) fits in
     record {
+      left = None;
       payload = length (row_record row);
       rowid = row.rowid;
       length_part = leaf.size_field;
@@ -33,10 +35,11 @@ whole_row usable row small id fits =
       local_part = row_record row;
       overflow_part = [];
       whole = leaf.whole ∙ regroup leaf.size_field leaf.rowid_field (row_record row);
+      is_left = refl;
       is_length = leaf.size;
       is_rowid = leaf.id;
       local = sym local;
-      overflow = sym (overflow_size-none usable (length (row_record row)) (omega (arith, local)));
+      overflow = sym (overflow_size-none TableLeaf usable (length (row_record row)) (omega (arith, local)));
     }
 
 -- whether the payload of one more row is local
@@ -108,9 +111,9 @@ cells_split place row tables front back none first one last before behind a b c 
     ∙ sym (ap (map row_cell) (rows_split place row tables front back before behind) ∙ map-append row_cell (rows_of front) (row ∷ rest))
 
 -- rows that are local and have room, by their cells
-pub built : (usable : ℕ) (rows : List SchemaRow) (cells : List (List ℕ)) → are_local usable rows ≡ true → cells ≡ map row_cell rows → Fits true usable cells
+pub built : (usable : ℕ) (rows : List SchemaRow) (cells : List (List ℕ)) → are_local usable rows ≡ true → cells ≡ map row_cell rows → Fits true TableLeaf usable cells
     → is_built usable rows ≡ true
 built usable rows cells local is fits =
-    let room = pointer_place true (length rows) + rooms (map row_cell rows) in
-    let within : Fits true usable (map row_cell rows) = subst (Fits true usable) is fits in
+    let room = pointer_place true TableLeaf (length rows) + rooms (map row_cell rows) in
+    let within : Fits true TableLeaf usable (map row_cell rows) = subst (Fits true TableLeaf usable) is fits in
     and_from (are_local usable rows) (nat_le room usable) local (le-leb room usable (omega (arith, length-map rows row_cell)))

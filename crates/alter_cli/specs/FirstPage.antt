@@ -45,9 +45,9 @@ leaf_of cells = record { kind = TableLeaf; right = None; cells = cells }
 -- the page is page 1, and holds these rows in this order and nothing else
 pub record HoldsRows (page : List ℕ) (usable : ℕ) (rows : List SchemaRow) : Type 0 where
   pub cells : List Cell
-  pub leaf : HasCells page true usable (leaf_of cells)
+  pub leaf : HasCells page true TableLeaf usable (leaf_of cells)
   pub held : HoldRows page cells rows
 
 -- a leaf page of a table tree without a cell
 abbrev pub IsEmptyTable : ℕ → List ℕ → Type 0
-IsEmptyTable usable page = HasCells page false usable (leaf_of [])
+IsEmptyTable usable page = HasCells page false TableLeaf usable (leaf_of [])

@@ -2,6 +2,7 @@
 use Rattle.std.specs.Prelude.{◌≡◌, ◌≤◌, ◌<◌, ℕ, ◌+◌, ◌-◌, ◌*◌, ◌/◌, ◌%◌, ◌^◌, ◌==◌, Bool, not, ◌&&◌, ◌||◌, IsTrue, max, List, [], ◌∷◌, ◌++◌, take, drop, slice_index, codes, if◌then◌else◌}
 use Rattle.byteorder.specs.Endian.{big_number, big_bytes}
 use Rattle.alter_bytes.specs.Field.{overlaid}
+use Rattle.page_cells.specs.Layout.{least_usable}
 
 -- the big-endian number of n bytes at this offset
 abbrev pub number_at : ℕ → ℕ → List ℕ → ℕ
@@ -60,7 +61,7 @@ most_bytes = 2 ^ 28
 pub record IsHeader (header : List ℕ) (file_length : ℕ) : Type 0 where
   pub whole : 100 ≤ file_length
   pub size : IsTrue (is_page_size (page_size header))
-  pub usable : 480 ≤ usable_size header
+  pub usable : least_usable ≤ usable_size header
   pub fixed : HasFixedBytes header
   pub served : HasServedFields header
   pub some : 0 < page_count header file_length

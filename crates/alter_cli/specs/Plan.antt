@@ -2,6 +2,7 @@
 use Rattle.std.specs.Prelude.{◌≡◌, ◌≤◌, ◌<◌, ℕ, ◌+◌, ◌^◌, true, false, Option, Some, None, List, ◌∷◌, ◌++◌, map, take, drop, length, All, Vec}
 use Rattle.std.specs.List.{list_any}
 use Rattle.std.specs.declared.alloc.Global.{Global}
+use Rattle.page_cells.specs.declared.kind.Kind.TheVariants.{TableLeaf}
 use Rattle.page_cells.specs.Write.{IsWholeCell, written_page}
 use Rattle.alter_bytes.specs.declared.bytes.Bytes.{Bytes}
 use Rattle.schema_rows.specs.declared.schema.SchemaRow.{SchemaRow}
@@ -20,7 +21,7 @@ use Rattle.alter_cli.specs.Step.{are_local, after, refusal_of, verdict_from, is_
 
 -- page 1 with the header of a committed change and these rows
 abbrev pub page_of : Form → List SchemaRow → List ℕ
-page_of form rows = written_page (committed form.sizes.count 3 (take 100 form.page) ++ drop 100 form.page) true form.sizes.usable (map row_cell rows)
+page_of form rows = written_page (committed form.sizes.count 3 (take 100 form.page) ++ drop 100 form.page) true TableLeaf None form.sizes.usable (map row_cell rows)
 
 -- page 1 after the command, where it is done
 abbrev pub new_page : Form → Command → List ℕ
@@ -75,7 +76,7 @@ pub record IsSmallRow (row : SchemaRow) : Type 0 where
 
 -- the cells of these rows, each a whole one, exactly where their payloads are all local
 abbrev pub AreCellsWith : ℕ → List SchemaRow → Option (Vec Bytes Global) → Type 0
-AreCellsWith usable rows (Some cells) = (are_local usable rows ≡ true) × (cells.items ≡ map row_cell rows) × All (IsWholeCell usable) cells.items
+AreCellsWith usable rows (Some cells) = (are_local usable rows ≡ true) × (cells.items ≡ map row_cell rows) × All (IsWholeCell TableLeaf usable) cells.items
 AreCellsWith usable rows None = are_local usable rows ≡ false
 
 -- page 1 with these rows, exactly where they have room there

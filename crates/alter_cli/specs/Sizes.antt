@@ -1,5 +1,6 @@
 -- The sizes that a header gives.
 use Rattle.std.specs.Prelude.{◌≡◌, ◌≤◌, ◌<◌, ◌*◌, ℕ, List}
+use Rattle.page_cells.specs.Layout.{least_usable}
 use Rattle.alter_cli.specs.declared.header.Sizes.{Sizes}
 use Rattle.alter_cli.specs.Header.{most_bytes, most_pages, page_count, page_size, usable_size}
 
@@ -11,7 +12,7 @@ pub record HasSizes (header : List ℕ) (file_length : ℕ) (sizes : Sizes) : Ty
 
 -- what holds of the sizes of every file that is served
 pub record AreSound (sizes : Sizes) : Type 0 where
-  pub least : 480 ≤ sizes.usable
+  pub least : least_usable ≤ sizes.usable
   pub usable : sizes.usable ≤ sizes.page
   pub header : 512 ≤ sizes.page
   pub page : sizes.page ≤ 65536

@@ -2,6 +2,7 @@
 use Rattle.std.specs.Prelude.{◌≡◌, ℕ, ◌+◌, ◌-◌, Bool, true, ◌&&◌, nat_le, nat_eq, if◌then◌else◌, Option, Some, None, List, [], ◌∷◌, ◌++◌, length, map, take, drop, find, codes}
 use Rattle.std.specs.List.{list_any, list_all}
 use Rattle.std.specs.Cmp.Lexicographic.{pointwise}
+use Rattle.page_cells.specs.declared.kind.Kind.TheVariants.{TableLeaf}
 use Rattle.page_cells.specs.Layout.{pointer_place}
 use Rattle.page_cells.specs.Write.{rooms, written_page}
 use Rattle.sql_token.specs.Names.{folded}
@@ -51,7 +52,7 @@ are_local usable rows = list_all (λ row. nat_le (length (row_record row)) (usab
 
 -- each row's payload is all local, and page 1 has room for the cells
 abbrev pub is_built : ℕ → List SchemaRow → Bool
-is_built usable rows = are_local usable rows && nat_le (pointer_place true (length rows) + rooms (map row_cell rows)) usable
+is_built usable rows = are_local usable rows && nat_le (pointer_place true TableLeaf (length rows) + rooms (map row_cell rows)) usable
 
 -- the first restriction that the command breaks, by the table that it is about
 abbrev pub refusal_at : ℕ → List Table → Command → Option Table → Option Refusal
@@ -79,7 +80,7 @@ pub record IsAdded (image : Image) (tables : List Table) (command : Command) (ne
   pub extent : length new ≡ length image
   pub header : header_of new ≡ committed (length image) 3 (header_of image)
   pub page : first_page new ≡ written_page (committed (length image) 3 (header_of image) ++ drop 100 (first_page image))
-      true (usable_size (header_of image)) (map row_cell (rows_of (after command tables)))
+      true TableLeaf None (usable_size (header_of image)) (map row_cell (rows_of (after command tables)))
   pub form : IsFirstForm new (after command tables)
 
 -- what a command with this verdict leaves

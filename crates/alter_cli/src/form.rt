@@ -43,10 +43,10 @@ fn push_cell(
 ) -> Result<bool, AllocError>
     requires least { 35 ≤ usable }
     requires small { IsSmallRow row.now }
-    requires whole { All (IsWholeCell usable) cells.old.items }
+    requires whole { All (IsWholeCell Kind.TableLeaf usable) cells.old.items }
     ensures local { IfOk result (λ local. local ≡ are_local usable (row.now ∷ [])) }
     ensures cells { IfOk result (λ local. IsTrue local → cells.new.items ≡ cells.old.items ++ row_cell row.now ∷ []) }
-    ensures whole { IfOk result (λ local. IsTrue local → All (IsWholeCell usable) cells.new.items) }
+    ensures whole { IfOk result (λ local. IsTrue local → All (IsWholeCell Kind.TableLeaf usable) cells.new.items) }
 {
     // A rowid of 32 bits has a varint.
     prove!(row.rowid <= u32::MAX);
@@ -67,10 +67,10 @@ fn push_cells(
 ) -> Result<bool, AllocError>
     requires least { 35 ≤ usable }
     requires ready { AllByRecursion IsReadyTable tables.now }
-    requires whole { All (IsWholeCell usable) cells.old.items }
+    requires whole { All (IsWholeCell Kind.TableLeaf usable) cells.old.items }
     ensures local { IfOk result (λ local. local ≡ are_local usable (rows_of tables.now)) }
     ensures cells { IfOk result (λ local. IsTrue local → cells.new.items ≡ cells.old.items ++ map row_cell (rows_of tables.now)) }
-    ensures whole { IfOk result (λ local. IsTrue local → All (IsWholeCell usable) cells.new.items) }
+    ensures whole { IfOk result (λ local. IsTrue local → All (IsWholeCell Kind.TableLeaf usable) cells.new.items) }
 {
     for table in tables {
         if !push_cell(alloc, usable, &table.row, cells)? {

@@ -5,6 +5,7 @@ ghost use Rattle.common_laws.specs.Results.{AnyError, Yields};
 ghost use Rattle.page_cells.specs.Cells.{HasCells};
 ghost use Rattle.page_cells.specs.Layout.{IsUsable};
 ghost use Rattle.page_cells.specs.declared.cell.Cell.{Cell};
+ghost use Rattle.page_cells.specs.declared.kind.Kind.TheVariants.{TableLeaf};
 ghost use Rattle.schema_rows.specs.Record.{IsRecord};
 ghost use Rattle.schema_rows.specs.Schema.{row_values};
 ghost use Rattle.schema_rows.specs.declared.schema.SchemaRow.{SchemaRow};
@@ -29,9 +30,9 @@ fn schema_rowid(rowid: Option<i64>) -> Option<u32>
 /// The cells of page 1, if it is a leaf page of a table tree.
 fn first_cells(alloc: Global, page: &[u8], usable: usize) -> Result<Option<Vec<Cell>>, AllocError>
     requires { IsUsable usable (length page.now) }
-    ensures found { IfOk result (λ read. IfSome read (λ c. HasCells page.now true usable (leaf_of c.items))) }
+    ensures found { IfOk result (λ read. IfSome read (λ c. HasCells page.now true TableLeaf usable (leaf_of c.items))) }
     ensures within { IfOk result (λ read. IfSome read (λ c. AllByRecursion (IsOnPage page.now) c.items)) }
-    ensures only { (list : List Cell) → HasCells page.now true usable (leaf_of list) → Yields AnyError (λ read. IsSomeAnd read (λ found. found.items ≡ list)) result }
+    ensures only { (list : List Cell) → HasCells page.now true TableLeaf usable (leaf_of list) → Yields AnyError (λ read. IsSomeAnd read (λ found. found.items ≡ list)) result }
 {
     match cells(alloc, page, true, usable) {
         Ok(found) => Ok(Some(found.cells.into_vec())),

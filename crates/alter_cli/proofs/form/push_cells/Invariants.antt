@@ -1,4 +1,5 @@
 use Rattle.std.proofs.Common.{◌≡◌, ◌++◌, map, take, true, All}
+use Rattle.page_cells.specs.declared.kind.Kind.TheVariants.{TableLeaf}
 use Rattle.page_cells.specs.Write.{IsWholeCell}
 use Rattle.schema_rows.specs.Schema.{row_cell}
 use Rattle.alter_cli.specs.FirstForm.{rows_of}
@@ -10,5 +11,5 @@ abbrev pub invariant-loop-table : goal.invariant-loop-table
 invariant-loop-table l = record {
   local : are_local l.usable (rows_of (take l.table-index l.tables)) ≡ true;
   cells : l.cells.items ≡ l.fn.cells.items ++ map row_cell (rows_of (take l.table-index l.tables));
-  whole : All (IsWholeCell l.usable) l.cells.items;
+  whole : All (IsWholeCell TableLeaf l.usable) l.cells.items;
 }
