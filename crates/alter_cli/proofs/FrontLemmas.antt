@@ -89,7 +89,7 @@ as_first_some (Some files) read first some only = λ rows small has.
     subst (λ r. IsSomeAnd r (λ (x : Vec SchemaRow Global). x.items ≡ rows)) some (only rows small has)
 
 -- a call that tells a length only reads
-pub only_reads : {D : Type 0} (disk : Ghosts D) (a b : D) → disk.files b ≡ disk.files a → KeepsRest disk.label disk.called disk.opened disk.write_faults a b
+only_reads : {D : Type 0} (disk : Ghosts D) (a b : D) → disk.files b ≡ disk.files a → KeepsRest disk.label disk.called disk.opened disk.write_faults a b
     → disk.read_faults a ≤ disk.read_faults b → OnlyReads disk a b
 only_reads disk a b files rest later = record { files = files; label = rest.label; called = rest.called; later = later; writes_stay = rest.other }
 
@@ -105,6 +105,15 @@ reads_again disk a b c first second =
       later = omega arith;
       writes_stay = second.writes_stay ∙ first.writes_stay;
     }
+
+-- two calls that tell lengths, and two that read
+pub reads_all : {D : Type 0} (disk : Ghosts D) (a b c d e : D)
+    → disk.files b ≡ disk.files a → KeepsRest disk.label disk.called disk.opened disk.write_faults a b → disk.read_faults a ≤ disk.read_faults b
+    → disk.files c ≡ disk.files b → KeepsRest disk.label disk.called disk.opened disk.write_faults b c → disk.read_faults b ≤ disk.read_faults c
+    → OnlyReads disk c d → OnlyReads disk d e → OnlyReads disk a e
+reads_all disk a b c d e files rest later more_files more_rest much_later front behind =
+    let lengths = reads_again disk a b c (only_reads disk a b files rest later) (only_reads disk b c more_files more_rest much_later) in
+    reads_again disk a d e (reads_again disk a c d lengths front) behind
 
 -- one more row with a root that is there and empty
 pub roots_more : (told now : Option Files) (sizes : Sizes) (rows : List SchemaRow) (i : ℕ) (row : SchemaRow) (has : Bool) → now ≡ told

@@ -4,7 +4,7 @@ use Rattle.alter_disk.specs.Changes.{IfTold}
 use Rattle.alter_cli.specs.FirstPage.{HoldsRows}
 use Rattle.alter_cli.specs.Header.{IsHeader}
 use Rattle.alter_cli.proofs.FileLemmas.{Filled, no_opening}
-use Rattle.alter_cli.proofs.FrontLemmas.{OnlyRows, as_first_none, as_first_some, first_found, first_only, lengths_told, no_first, only_reads, page_read, reads_again}
+use Rattle.alter_cli.proofs.FrontLemmas.{OnlyRows, as_first_none, as_first_some, first_found, first_only, lengths_told, no_first, page_read, reads_all}
 use Rattle.alter_cli.proofs.file.read_first.Goals as goal
 
 pub returns-in_default-clause-only : goal.returns-in_default-clause-only
@@ -66,51 +66,36 @@ returns-in-None-clause-only g c =
 
 pub returns-in_err-behind-clause-reads : goal.returns-in_err-behind-clause-reads
 returns-in_err-behind-clause-reads g c =
-    let disk = g.D.Disk in
-    let lengths = reads_again disk c.args.disk.now c.len.new.self c.len-2.new.self
-    (only_reads disk c.args.disk.now c.len.new.self c.in_ok-journal.ensures.files c.in_ok-journal.ensures.rest c.in_ok-journal.ensures.cause.later)
-    (only_reads disk c.len.new.self c.len-2.new.self c.in_ok-len.ensures.files c.in_ok-len.ensures.rest c.in_ok-len.ensures.cause.later) in
-    let front = reads_again disk c.args.disk.now c.len-2.new.self c.read_bytes.new.disk lengths c.in_ok-page.ensures.reads.only in
-    let all = reads_again disk c.args.disk.now c.read_bytes.new.disk c.read_bytes-2.new.disk front c.in_err-behind.ensures.reads.only in
+    let all = reads_all g.D.Disk c.args.disk.now c.len.new.self c.len-2.new.self c.read_bytes.new.disk c.read_bytes-2.new.disk
+    c.in_ok-journal.ensures.files c.in_ok-journal.ensures.rest c.in_ok-journal.ensures.cause.later
+    c.in_ok-len.ensures.files c.in_ok-len.ensures.rest c.in_ok-len.ensures.cause.later c.in_ok-page.ensures.reads.only c.in_err-behind.ensures.reads.only in
     let failed = c.in_err-behind.ensures.reads.failed in
     search rules
 
 pub returns-in_err-extend_from_slice-clause-reads : goal.returns-in_err-extend_from_slice-clause-reads
 returns-in_err-extend_from_slice-clause-reads g c =
-    let disk = g.D.Disk in
-    let lengths = reads_again disk c.args.disk.now c.len.new.self c.len-2.new.self
-    (only_reads disk c.args.disk.now c.len.new.self c.in_ok-journal.ensures.files c.in_ok-journal.ensures.rest c.in_ok-journal.ensures.cause.later)
-    (only_reads disk c.len.new.self c.len-2.new.self c.in_ok-len.ensures.files c.in_ok-len.ensures.rest c.in_ok-len.ensures.cause.later) in
-    let front = reads_again disk c.args.disk.now c.len-2.new.self c.read_bytes.new.disk lengths c.in_ok-page.ensures.reads.only in
-    let all = reads_again disk c.args.disk.now c.read_bytes.new.disk c.read_bytes-2.new.disk front c.in_ok-behind.ensures.reads.only in
+    let all = reads_all g.D.Disk c.args.disk.now c.len.new.self c.len-2.new.self c.read_bytes.new.disk c.read_bytes-2.new.disk
+    c.in_ok-journal.ensures.files c.in_ok-journal.ensures.rest c.in_ok-journal.ensures.cause.later
+    c.in_ok-len.ensures.files c.in_ok-len.ensures.rest c.in_ok-len.ensures.cause.later c.in_ok-page.ensures.reads.only c.in_ok-behind.ensures.reads.only in
     search rules
 
 pub returns-in_err-rows-clause-reads : goal.returns-in_err-rows-clause-reads
 returns-in_err-rows-clause-reads g c =
-    let disk = g.D.Disk in
-    let lengths = reads_again disk c.args.disk.now c.len.new.self c.len-2.new.self
-    (only_reads disk c.args.disk.now c.len.new.self c.in_ok-journal.ensures.files c.in_ok-journal.ensures.rest c.in_ok-journal.ensures.cause.later)
-    (only_reads disk c.len.new.self c.len-2.new.self c.in_ok-len.ensures.files c.in_ok-len.ensures.rest c.in_ok-len.ensures.cause.later) in
-    let front = reads_again disk c.args.disk.now c.len-2.new.self c.read_bytes.new.disk lengths c.in_ok-page.ensures.reads.only in
-    let all = reads_again disk c.args.disk.now c.read_bytes.new.disk c.read_bytes-2.new.disk front c.in_ok-behind.ensures.reads.only in
+    let all = reads_all g.D.Disk c.args.disk.now c.len.new.self c.len-2.new.self c.read_bytes.new.disk c.read_bytes-2.new.disk
+    c.in_ok-journal.ensures.files c.in_ok-journal.ensures.rest c.in_ok-journal.ensures.cause.later
+    c.in_ok-len.ensures.files c.in_ok-len.ensures.rest c.in_ok-len.ensures.cause.later c.in_ok-page.ensures.reads.only c.in_ok-behind.ensures.reads.only in
     search rules
 
 pub returns-in-Some-2-clause-reads : goal.returns-in-Some-2-clause-reads
 returns-in-Some-2-clause-reads g c =
-    let disk = g.D.Disk in
-    let lengths = reads_again disk c.args.disk.now c.len.new.self c.len-2.new.self
-    (only_reads disk c.args.disk.now c.len.new.self c.in_ok-journal.ensures.files c.in_ok-journal.ensures.rest c.in_ok-journal.ensures.cause.later)
-    (only_reads disk c.len.new.self c.len-2.new.self c.in_ok-len.ensures.files c.in_ok-len.ensures.rest c.in_ok-len.ensures.cause.later) in
-    let front = reads_again disk c.args.disk.now c.len-2.new.self c.read_bytes.new.disk lengths c.in_ok-page.ensures.reads.only in
-    let all = reads_again disk c.args.disk.now c.read_bytes.new.disk c.read_bytes-2.new.disk front c.in_ok-behind.ensures.reads.only in
+    let all = reads_all g.D.Disk c.args.disk.now c.len.new.self c.len-2.new.self c.read_bytes.new.disk c.read_bytes-2.new.disk
+    c.in_ok-journal.ensures.files c.in_ok-journal.ensures.rest c.in_ok-journal.ensures.cause.later
+    c.in_ok-len.ensures.files c.in_ok-len.ensures.rest c.in_ok-len.ensures.cause.later c.in_ok-page.ensures.reads.only c.in_ok-behind.ensures.reads.only in
     search rules
 
 pub returns-in-None-clause-reads : goal.returns-in-None-clause-reads
 returns-in-None-clause-reads g c =
-    let disk = g.D.Disk in
-    let lengths = reads_again disk c.args.disk.now c.len.new.self c.len-2.new.self
-    (only_reads disk c.args.disk.now c.len.new.self c.in_ok-journal.ensures.files c.in_ok-journal.ensures.rest c.in_ok-journal.ensures.cause.later)
-    (only_reads disk c.len.new.self c.len-2.new.self c.in_ok-len.ensures.files c.in_ok-len.ensures.rest c.in_ok-len.ensures.cause.later) in
-    let front = reads_again disk c.args.disk.now c.len-2.new.self c.read_bytes.new.disk lengths c.in_ok-page.ensures.reads.only in
-    let all = reads_again disk c.args.disk.now c.read_bytes.new.disk c.read_bytes-2.new.disk front c.in_ok-behind.ensures.reads.only in
+    let all = reads_all g.D.Disk c.args.disk.now c.len.new.self c.len-2.new.self c.read_bytes.new.disk c.read_bytes-2.new.disk
+    c.in_ok-journal.ensures.files c.in_ok-journal.ensures.rest c.in_ok-journal.ensures.cause.later
+    c.in_ok-len.ensures.files c.in_ok-len.ensures.rest c.in_ok-len.ensures.cause.later c.in_ok-page.ensures.reads.only c.in_ok-behind.ensures.reads.only in
     search rules
