@@ -14,7 +14,8 @@ use Rattle.page_cells.specs.Layout.{IsUsable, local_payload, pointer_place}
 use Rattle.page_cells.specs.Write.{Fits, IsWholeCell, rooms, written_page}
 use Rattle.page_cells.specs.declared.cell.Cell.{Cell}
 use Rattle.page_cells.proofs.LayoutLemmas.{local_payload-whole}
-use Rattle.page_cells.proofs.WriteLemmas.{content_start, found_page, has_cells-written_page, length-found_cells, reads_back}
+use Rattle.page_cells.proofs.FoundLemmas.{found_page, has_cells-written_page, length-found_cells, reads_back}
+use Rattle.page_cells.proofs.WriteLemmas.{content_start}
 use Rattle.common_laws.proofs.Each.{at_index}
 use Rattle.schema_rows.specs.declared.schema.SchemaRow.{SchemaRow}
 use Rattle.schema_rows.specs.Record.{IsRecord}
