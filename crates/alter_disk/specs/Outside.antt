@@ -44,15 +44,6 @@ pub record Rises : Type 1 where
   pub writing : Type 0
   pub sink : Type 0
 
--- which counts rose between two moments
-abbrev pub rises : Outside → Outside → Rises
-rises before now = record {
-  source = Rose before.source_faults now.source_faults;
-  reading = Rose before.read_faults now.read_faults;
-  writing = Rose before.write_faults now.write_faults;
-  sink = Rose before.sink_faults now.sink_faults;
-}
-
 -- a count of reading rose, the source's or the disk's
 abbrev pub ReadRose : Rises → Type 0
 ReadRose rose = rose.source ⊎ rose.reading
@@ -61,9 +52,28 @@ ReadRose rose = rose.source ⊎ rose.reading
 abbrev pub AnyRose : Rises → Type 0
 AnyRose rose = rose.source ⊎ rose.reading ⊎ rose.writing ⊎ rose.sink
 
--- no count fell
-pub record NoneFell (before now : Outside) : Type 0 where
-  pub source : before.source_faults ≤ now.source_faults
-  pub reading : before.read_faults ≤ now.read_faults
-  pub writing : before.write_faults ≤ now.write_faults
-  pub sink : before.sink_faults ≤ now.sink_faults
+-- what was outside before some calls, and what is behind them
+pub record Span : Type 0 where
+  pub before : Outside
+  pub now : Outside
+
+-- the span between two moments of these three
+abbrev pub span : {S D K : Type 0} → sources.Ghosts S → disks.Ghosts D → sinks.Ghosts K → S × D × K → S × D × K → Span
+span source disk sink before now =
+    record { before = outside source disk sink before.0 before.1 before.2; now = outside source disk sink now.0 now.1 now.2 }
+
+-- which counts rose in it
+abbrev pub rises : Span → Rises
+rises span = record {
+  source = Rose span.before.source_faults span.now.source_faults;
+  reading = Rose span.before.read_faults span.now.read_faults;
+  writing = Rose span.before.write_faults span.now.write_faults;
+  sink = Rose span.before.sink_faults span.now.sink_faults;
+}
+
+-- no count fell in it
+pub record NoneFell (span : Span) : Type 0 where
+  pub source : span.before.source_faults ≤ span.now.source_faults
+  pub reading : span.before.read_faults ≤ span.now.read_faults
+  pub writing : span.before.write_faults ≤ span.now.write_faults
+  pub sink : span.before.sink_faults ≤ span.now.sink_faults

@@ -1,6 +1,8 @@
--- What several calls of a disk did, at a bound `D: Disk`.
+-- What calls of a disk, a source or a sink did, at a bound `D: Disk` and the like.
 use Rattle.std.specs.Prelude.{◌≡◌, ◌≤◌, true, is_some}
 use Rattle.alter_disk.specs.declared.disk.Disk.{Ghosts}
+use Rattle.alter_disk.specs.declared.source.Source as sources
+use Rattle.alter_disk.specs.declared.sink.Sink as sinks
 use Rattle.alter_disk.specs.Faults.{Rose}
 
 -- a call that reads failed
@@ -10,6 +12,14 @@ ReadFailed disk old new = Rose (disk.read_faults old) (disk.read_faults new)
 -- a call that writes failed
 abbrev pub WriteFailed : {D : Type 0} → Ghosts D → D → D → Type 0
 WriteFailed disk old new = Rose (disk.write_faults old) (disk.write_faults new)
+
+-- a read of the source failed
+abbrev pub SourceFailed : {S : Type 0} → sources.Ghosts S → S → S → Type 0
+SourceFailed source old new = Rose (source.faults old) (source.faults new)
+
+-- a write of the sink failed
+abbrev pub SinkFailed : {K : Type 0} → sinks.Ghosts K → K → K → Type 0
+SinkFailed sink old new = Rose (sink.faults old) (sink.faults new)
 
 -- calls that only read changed no byte and did not fail to write
 pub record OnlyReads {D : Type 0} (disk : Ghosts D) (old new : D) : Type 0 where
