@@ -13,6 +13,7 @@ pub mod ImageLemmas
 pub mod OpensLemmas
 pub mod PageLemmas
 pub mod PerformLemmas
+pub mod Printed
 pub mod Reached
 pub mod ReadyLemmas
 pub mod Retold

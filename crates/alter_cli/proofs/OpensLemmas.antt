@@ -13,7 +13,7 @@ use Rattle.alter_cli.specs.Header.{page_count, page_size, usable_size}
 use Rattle.alter_cli.specs.Sizes.{HasSizes, AreSound}
 use Rattle.alter_cli.specs.FirstPage.{HoldsRows, IsEmptyTable}
 use Rattle.alter_cli.specs.FirstForm.{AreApart, AreFiles, HasRoot, IsFirstForm, IsSpelled, first_page, header_of, rows_of}
-use Rattle.alter_cli.specs.Outcome.{Opens}
+use Rattle.alter_cli.specs.Opens.{Opens}
 use Rattle.alter_cli.specs.Served.{HasEmptyRoot, HasFirstPage, IsFirstPage, IsReadyFirst, IsShortRow, IsReady, IsReadyTable, AreOfForm, OnlyFirstPage}
 use Rattle.common_laws.proofs.Each.{all_weaker}
 use Rattle.std.proofs.lemmas.Bool.{false≢true}

@@ -1,5 +1,5 @@
 -- The loop over the commands.
-use Rattle.std.proofs.Common.{◌≡◌, ◌<◌, ◌≤◌, ℕ, ◌+◌, ◌*◌, Bool, true, false, ◌&&◌, List, [], ◌∷◌, ◌++◌, length, take, Option, Some, None, option_map, IsSomeAnd, get_or, refl, sym, ◌∙◌, ap, subst, arith, append-nil, append_assoc}
+use Rattle.std.proofs.Common.{◌≡◌, ◌<◌, ◌≤◌, ℕ, ◌+◌, ◌*◌, Bool, true, false, ◌&&◌, List, [], ◌∷◌, ◌++◌, length, take, Option, Some, None, option_map, Err, IsSomeAnd, get_or, refl, sym, ◌∙◌, ap, subst, arith, append-nil, append_assoc}
 use Rattle.std.proofs.Math.Seq.{take-length}
 use Rattle.std.proofs.lemmas.List.{length-take-le}
 use Rattle.std.proofs.lemmas.List.Folds.{list_all-append}
@@ -17,14 +17,18 @@ use Rattle.alter_cli.specs.declared.verdict.Verdict.TheVariants.{Done}
 use Rattle.alter_cli.specs.Image.{Image}
 use Rattle.alter_cli.specs.Header.{page_size}
 use Rattle.alter_cli.specs.FirstForm.{AreFiles, header_of}
-use Rattle.alter_cli.specs.Given.{HasFront}
+use Rattle.alter_cli.specs.Given.{WroteFront}
 use Rattle.alter_cli.specs.Lines.{verdict_line, verdict_lines}
 use Rattle.alter_cli.specs.Step.{Step}
 use Rattle.alter_cli.specs.Run.{Run}
 use Rattle.alter_cli.specs.Plan.{Advances, verdict_on}
 use Rattle.alter_cli.specs.Served.{IsFormOf, IsReady}
-use Rattle.alter_cli.specs.Outcome.{IsFirstTorn, is_done}
-use Rattle.alter_cli.specs.Ending.{IsRunStop, NotRun, OfForm, RanEach, RanTo, StoppedAt, TornAt, TornFirst, UnprintedAt, left_by}
+use Rattle.alter_cli.specs.Opens.{IsFirstTorn, first_rules}
+use Rattle.alter_cli.specs.Outcome.{is_done}
+use Rattle.alter_cli.specs.Carried.{NotRun, OfForm, TornFirst, left_by}
+use Rattle.alter_cli.specs.Ending.{WhereSinkTells}
+use Rattle.alter_cli.specs.Stops.{GaveLines, IsRunStop, RanEach, RanTo, StoppedAt, TornAt, UnprintedAt}
+use Rattle.alter_cli.proofs.Printed.{GaveSo, gave_front, gave_memory, gave_unwritten}
 use Rattle.alter_cli.proofs.ImageLemmas.{has_first, some_page}
 use Rattle.common_laws.proofs.Each.{at_index}
 use Rattle.common_laws.proofs.Lists.{take_one}
@@ -34,7 +38,7 @@ use Rattle.alter_cli.proofs.Stepped.{stepped, stepped_image}
 -- these commands were run on an image, and the form is the one behind them
 pub record Reached (image : Image) (commands : List Command) (given : List ℕ) (after : Option Files) (now : Option (List ℕ)) (form : Form) (all : Bool) : Type 0 where
   pub verdicts : List Verdict
-  pub ran : RanTo image commands given after now verdicts
+  pub ran : RanTo first_rules image commands given after now verdicts
   pub of : IsFormOf ran.last form
   pub told : all ≡ list_all is_done verdicts
 
@@ -88,9 +92,9 @@ up_to commands place number command next = sym (take_one commands place command 
 
 -- the number of the next command is that of the verdicts and one
 numbered : (image : Image) (commands : List Command) (place number : ℕ) (command : Command) (verdicts : List Verdict) (last : Image)
-    → IsNext commands place number command → Run image (take place commands) verdicts last → number ≡ 1 + length verdicts
+    → IsNext commands place number command → Run first_rules image (take place commands) verdicts last → number ≡ 1 + length verdicts
 numbered image commands place number command verdicts last next run =
-    let many = length-run image (take place commands) verdicts last run in
+    let many = length-run first_rules image (take place commands) verdicts last run in
     let front = length-take-le place commands (omega (arith, next.within)) in
     omega (arith, next.at)
 
@@ -113,8 +117,8 @@ reached_more image commands given place number command verdict form new before a
       ran = record {
         last = step.0;
         files = left_by form command verdict ran.files;
-        run = subst (λ cs. Run image cs (verdicts ++ verdict ∷ []) step.0) (sym (up_to commands place number command next))
-            (run-grows image (take place commands) verdicts ran.last command verdict step.0 ran.run
+        run = subst (λ cs. Run first_rules image cs (verdicts ++ verdict ∷ []) step.0) (sym (up_to commands place number command next))
+            (run-grows first_rules image (take place commands) verdicts ran.last command verdict step.0 ran.run
             (subst (λ v. Step ran.last command v step.0) (sym decided) step.1));
         told = left ∙ ap (option_map (left_by form command verdict)) ran.told;
         are = subst (λ v. AreFiles (left_by form command v ran.files) step.0) (sym decided) step.2;
@@ -138,9 +142,9 @@ reached_more image commands given place number command verdict form new before a
 -- all commands
 pub reached_all : (image : Image) (commands : List Command) (given : List ℕ) (place : ℕ) (form : Form) (after : Option Files) (now : Option (List ℕ))
     (all_done : Bool) → place ≡ length commands → Reached image (take place commands) given after now form all_done
-    → RanEach image commands given after now all_done
+    → RanEach first_rules image commands given after now all_done
 reached_all image commands given place form after now all_done end reached =
-    (reached.verdicts, subst (λ cs. RanTo image cs given after now reached.verdicts) (ap (λ n. take n commands) end ∙ take-length commands) reached.ran, reached.told)
+    (reached.verdicts, subst (λ cs. RanTo first_rules image cs given after now reached.verdicts) (ap (λ n. take n commands) end ∙ take-length commands) reached.ran, reached.told)
 
 -- page 1 of the form is a whole page of the files
 page_length : (files : Files) (image : Image) (form : Form) → AreFiles files image → IsFormOf image form → IsReady form
@@ -154,8 +158,8 @@ page_length files image form are of ready =
 unprinted : (image : Image) (commands : List Command) (given : List ℕ) (place number : ℕ) (command : Command) (form : Form) (before after : Option Files)
     (had now : Option (List ℕ)) (all_done : Bool) → IsNext commands place number command
     → after ≡ option_map (left_by form command (verdict_on form command)) before
-    → IfTold had (λ given. HasFront given (verdict_line number (verdict_on form command)) now)
-    → Reached image (take place commands) given before had form all_done → UnprintedAt image commands given after now
+    → IfTold had (λ given. WroteFront given (verdict_line number (verdict_on form command)) now)
+    → Reached image (take place commands) given before had form all_done → UnprintedAt first_rules image commands given after now
 unprinted image commands given place number command form before after had now all_done next left printed reached =
     let ran = reached.ran in
     let verdicts = reached.verdicts in
@@ -167,20 +171,20 @@ unprinted image commands given place number command form before after had now al
       verdict = verdict;
       last = step.0;
       files = left_by form command verdict ran.files;
-      run = subst (λ cs. Run image cs (verdicts ++ verdict ∷ []) step.0) (sym (up_to commands place number command next))
-          (run-grows image (take place commands) verdicts ran.last command verdict step.0 ran.run step.1);
+      run = subst (λ cs. Run first_rules image cs (verdicts ++ verdict ∷ []) step.0) (sym (up_to commands place number command next))
+          (run-grows first_rules image (take place commands) verdicts ran.last command verdict step.0 ran.run step.1);
       told = left ∙ ap (option_map (left_by form command verdict)) ran.told;
       are = step.2;
-      front = subst (λ n. HasFront (given ++ verdict_lines 1 verdicts) (verdict_line n verdict) now)
+      front = subst (λ n. WroteFront (given ++ verdict_lines 1 verdicts) (verdict_line n verdict) now)
           (numbered image commands place number command verdicts ran.last next ran.run)
-          (subst (λ h. IfTold h (λ w. HasFront w (verdict_line number verdict) now)) ran.lines printed);
+          (subst (λ h. IfTold h (λ w. WroteFront w (verdict_line number verdict) now)) ran.lines printed);
     }
 
 -- the write of the next command was torn
 torn_at : (image : Image) (commands : List Command) (given : List ℕ) (place number : ℕ) (command : Command) (form : Form) (before after : Option Files)
     (had now : Option (List ℕ)) (all_done : Bool) → IsNext commands place number command → IsReady form → verdict_on form command ≡ Done
     → TornFirst (length form.page) before after → now ≡ had → Reached image (take place commands) given before had form all_done
-    → TornAt image commands given after now
+    → TornAt first_rules image commands given after now
 torn_at image commands given place number command form before after had now all_done next ready done torn same reached =
     let ran = reached.ran in
     let step = stepped_image ran.files ran.last form command ran.are reached.of next.plain in
@@ -202,12 +206,12 @@ torn_at image commands given place number command form before after had now all_
 pub reached_stop : (Part Shut Write Sunk : Type 0) (image : Image) (commands : List Command) (given : List ℕ) (place number : ℕ) (command : Command)
     (form : Form) (before after : Option Files) (had now : Option (List ℕ)) (all_done : Bool) (stop : Stop) → (Part → Write) → (Shut → Sunk)
     → IsNext commands place number command → IsReady form → NotRun Part Shut form number command before after had now stop
-    → Reached image (take place commands) given before had form all_done → StoppedAt Write Sunk image commands given after now stop
+    → Reached image (take place commands) given before had form all_done → StoppedAt first_rules Write Sunk image commands given after now stop
 reached_stop Part Shut Write Sunk image commands given place number command form before after had now all_done Memory wrote sunk next ready why reached = (
   place,
   reached.verdicts,
-  subst (λ a. RanTo image (take place commands) given a now reached.verdicts) (sym why.0)
-      (subst (λ n. RanTo image (take place commands) given before n reached.verdicts) (sym why.1) reached.ran),
+  subst (λ a. RanTo first_rules image (take place commands) given a now reached.verdicts) (sym why.0)
+      (subst (λ n. RanTo first_rules image (take place commands) given before n reached.verdicts) (sym why.1) reached.ran),
 )
 reached_stop Part Shut Write Sunk image commands given place number command form before after had now all_done Unwritten wrote sunk next ready why reached =
     (wrote why.0, torn_at image commands given place number command form before after had now all_done next ready why.1 why.2 why.3 reached)
@@ -222,3 +226,13 @@ run_cause Part Shut Write Sunk form number command before after had now Memory w
 run_cause Part Shut Write Sunk form number command before after had now Unwritten wrote sunk why = wrote why.0
 run_cause Part Shut Write Sunk form number command before after had now Unprinted wrote sunk why = sunk why.0
 run_cause Part Shut Write Sunk form number command before after had now stop wrote sunk why = absurd why
+
+-- what the sink was given before a command stopped
+pub gave_stop : (Part Shut Sunk : Type 0) (form : Form) (count number : ℕ) (command : Command) (before after : Option Files)
+    (given had now : Option (List ℕ)) (stop : Stop) → (Shut → Sunk) → number ≡ count + 1 → NotRun Part Shut form number command before after had now stop
+    → WhereSinkTells given had (GaveSo count) → WhereSinkTells given now (λ g n. GaveLines Sunk g n (Err stop))
+gave_stop Part Shut Sunk form count number command before after given had now Memory shut at why is = gave_memory Sunk given had now count why.1 is
+gave_stop Part Shut Sunk form count number command before after given had now Unwritten shut at why is = gave_unwritten Sunk given had now count why.3 is
+gave_stop Part Shut Sunk form count number command before after given had now Unprinted shut at why is =
+    gave_front Sunk given had now count number (verdict_on form command) (shut why.0) at why.2 is
+gave_stop Part Shut Sunk form count number command before after given had now stop shut at why is = absurd why

@@ -2,82 +2,15 @@
 use Rattle.std.proofs.Common.{◌≡◌, ◌≢◌, ℕ, Bool, ◌⊎◌, inl, inr, Option, Some, None, Result, Ok, Err, OnOk, IfErr, List, sym, ◌∙◌, arith}
 use Rattle.alter_disk.specs.Changes.{IfTold}
 use Rattle.alter_disk.specs.Files.{Files}
-use Rattle.plain_sql.specs.declared.script.Command.{Command}
-use Rattle.alter_cli.specs.declared.form.Form.{Form}
+use Rattle.alter_disk.specs.Outside.{Rises}
 use Rattle.alter_cli.specs.declared.status.Status.{Status}
 use Rattle.alter_cli.specs.declared.status.Status.TheVariants as statuses
 use Rattle.alter_cli.specs.declared.stop.Stop.{Stop}
 use Rattle.alter_cli.specs.declared.stop.Stop.TheVariants.{Misused, TooLong, Unspelled, Unread, Unserved, Unreadable, Unwritten, Unprinted, Memory}
-use Rattle.alter_cli.specs.Served.{AreOfForm}
-use Rattle.alter_cli.specs.Ending.{IsRunStop, NoForm, NoScript, stop_status}
-use Rattle.alter_cli.specs.Causes.{CanRun, CanRunTold, IsCaused, IsExactly, IsFileRefused, IsRunStatus, IsScriptTold, IsUnserved}
+use Rattle.alter_cli.specs.Causes.{CanRun, IsExactly, IsFileRefused, IsRunStatus, IsUnserved}
+use Rattle.alter_cli.specs.Rules.{Rules}
+use Rattle.alter_cli.specs.Stops.{CanRunTold, IsCaused, IsRunStop, IsScriptTold, NoForm, NoScript, OpensOf, stop_status}
 use Rattle.alter_cli.proofs.PerformLemmas.{Commands_read}
-
--- what was read is a script
-pub script_told : (text left : Option (List ℕ)) (commands : List Command) → Commands_read text left commands → IsScriptTold text
-script_told None left commands is = tt
-script_told (Some t) left commands is = (commands, is.0)
-
--- what was read can be run
-pub can_run_told : (text left : Option (List ℕ)) (files : Option Files) (commands : List Command) (form : Form) → Commands_read text left commands
-    → IfTold files (λ f. AreOfForm f form) → CanRunTold text files
-can_run_told None left files commands form is of = record { script = tt; both = tt }
-can_run_told (Some t) left None commands form is of = record { script = (commands, is.0); both = tt }
-can_run_told (Some t) left (Some f) commands form is of = record {
-  script = (commands, is.0);
-  both = record {
-    commands = commands;
-    served = is.0;
-    image = of.image;
-    opens = record { files = of.are; tables = form.tables.items; form = of.of.first };
-  };
-}
-
--- why there was no script
-pub script_cause : (Source Read Write Sunk : Type 0) (text left : Option (List ℕ)) (files : Option Files) (stop : Stop) → NoScript Source text left stop
-    → IsCaused Source Read Write Sunk text files stop
-script_cause Source Read Write Sunk None left files TooLong why = tt
-script_cause Source Read Write Sunk (Some t) left files TooLong why = λ commands served. absurd (omega (arith, why.0, served.short))
-script_cause Source Read Write Sunk None left files Unspelled why = tt
-script_cause Source Read Write Sunk (Some t) left files Unspelled why = λ commands served. why.1 commands served.script
-script_cause Source Read Write Sunk text left files Unread why = why
-script_cause Source Read Write Sunk text left files Memory why = tt
-script_cause Source Read Write Sunk text left files stop why = absurd why
-
--- the file that was refused
-refused_told : (text left : Option (List ℕ)) (files : Option Files) (commands : List Command) → Commands_read text left commands
-    → NoForm (Unit {0}) files Unserved → IfTold text (λ t. IfTold files (IsFileRefused t))
-refused_told None left files commands is why = tt
-refused_told (Some t) left None commands is why = tt
-refused_told (Some t) left (Some f) commands is why = record { commands = commands; served = is.0; unserved = why }
-
--- why there was no form
-pub form_cause : (Source Read Write Sunk : Type 0) (text left : Option (List ℕ)) (files : Option Files) (commands : List Command) (stop : Stop)
-    → Commands_read text left commands → NoForm Read files stop → IsCaused Source Read Write Sunk text files stop
-form_cause Source Read Write Sunk text left files commands Unserved is why =
-    (script_told text left commands is, refused_told text left files commands is why)
-form_cause Source Read Write Sunk text left files commands Unreadable is why = (why, script_told text left commands is)
-form_cause Source Read Write Sunk text left files commands Memory is why = tt
-form_cause Source Read Write Sunk text left files commands stop is why = absurd why
-
--- why the run of the commands stopped
-pub stop_cause : (Source Read Part Write Sunk : Type 0) (text : Option (List ℕ)) (files : Option Files) (stop : Stop) → (Part → Write)
-    → CanRunTold text files → IsRunStop Part Sunk stop → IsCaused Source Read Write Sunk text files stop
-stop_cause Source Read Part Write Sunk text files Unwritten wrote can why = (wrote why, can)
-stop_cause Source Read Part Write Sunk text files Unprinted wrote can why = (why, can)
-stop_cause Source Read Part Write Sunk text files Memory wrote can why = tt
-stop_cause Source Read Part Write Sunk text files stop wrote can why = absurd why
-
--- a run of the commands that did not stop was one of what can be run
-pub ok_able : (text : Option (List ℕ)) (files : Option Files) (result : Result Bool Stop) → CanRunTold text files → OnOk result (CanRunTold text files)
-ok_able text files (Ok all_done) can = can
-ok_able text files (Err stop) can = tt
-
--- why the run of the commands stopped, if it did
-pub err_cause : (Source Read Part Write Sunk : Type 0) (text : Option (List ℕ)) (files : Option Files) (result : Result Bool Stop) → (Part → Write)
-    → CanRunTold text files → IfErr result (IsRunStop Part Sunk) → IfErr result (IsCaused Source Read Write Sunk text files)
-err_cause Source Read Part Write Sunk text files (Ok all_done) wrote can why = tt
-err_cause Source Read Part Write Sunk text files (Err stop) wrote can why = stop_cause Source Read Part Write Sunk text files stop wrote can why
 
 -- a stop and its last line: the status of the stop, or a fault by the line
 abbrev pub IsStopStatus : Type 0 → Stop → Status → Type 0
@@ -88,114 +21,181 @@ other_status : (Wanted : Status → Type 0) (Condition Cause : Type 0) (status :
     → (Condition → (status ≡ statuses.Memory) ⊎ ((status ≡ statuses.Fault) × Cause)) → IsExactly Wanted Condition Cause status
 other_status Wanted Condition Cause status never instead = record { only = λ w. absurd (never w); comes = λ c. inr (instead c) }
 
--- a script's status, where the text is told
-script_at : (Source Read Write First Part Sunk : Type 0) (t : List ℕ) (files : Option Files) (stop : Stop) (status : Status) → (First → Sunk)
-    → IsCaused Source Read Write First (Some t) files stop → status ≡ stop_status stop
-    → IsExactly (λ s. s ≡ statuses.Script) (IsUnserved t) (Source ⊎ Sunk) status
-script_at Source Read Write First Part Sunk t files TooLong status first why same = record { only = λ _. why; comes = λ _. inl same }
-script_at Source Read Write First Part Sunk t files Unspelled status first why same = record { only = λ _. why; comes = λ _. inl same }
-script_at Source Read Write First Part Sunk t files Unread status first why same =
-    other_status _ _ _ status (λ e. cc) (λ _. inr (same, inl why))
-script_at Source Read Write First Part Sunk t files Unserved status first why same =
-    other_status _ _ _ status (λ e. cc) (λ un. absurd (un why.0.0 why.0.1))
-script_at Source Read Write First Part Sunk t files Unreadable status first why same =
-    other_status _ _ _ status (λ e. cc) (λ un. absurd (un why.1.0 why.1.1))
-script_at Source Read Write First Part Sunk t files Unwritten status first why same =
-    other_status _ _ _ status (λ e. cc) (λ un. absurd (un why.1.script.0 why.1.script.1))
-script_at Source Read Write First Part Sunk t files Unprinted status first why same =
-    other_status _ _ _ status (λ e. cc) (λ _. inr (same, inr (first why.0)))
-script_at Source Read Write First Part Sunk t files Memory status first why same = other_status _ _ _ status (λ e. cc) (λ _. inl same)
-script_at Source Read Write First Part Sunk t files Misused status first why same = absurd why
-
--- a call that stopped ends with a script's status exactly where it should
-pub script_stopped : (Source Read Write First Part Sunk : Type 0) (text : Option (List ℕ)) (files : Option Files) (stop : Stop) (status : Status)
-    → (First → Sunk) → (Part → Sunk) → IsCaused Source Read Write First text files stop → IsStopStatus Part stop status
-    → IfTold text (λ t. IsExactly (λ s. s ≡ statuses.Script) (IsUnserved t) (Source ⊎ Sunk) status)
-script_stopped Source Read Write First Part Sunk None files stop status first later why is = tt
-script_stopped Source Read Write First Part Sunk (Some t) files stop status first later why (inl same) =
-    script_at Source Read Write First Part Sunk t files stop status first why same
-script_stopped Source Read Write First Part Sunk (Some t) files stop status first later why (inr fault) =
-    other_status _ _ _ status (λ e. let same = fault.0 in cc) (λ _. inr (fault.0, inr (later fault.1)))
-
--- a file's status, where text and files are told
-file_at : (Source Read Write First Sunk : Type 0) (t : List ℕ) (f : Files) (stop : Stop) (status : Status) → (First → Sunk)
-    → IsCaused Source Read Write First (Some t) (Some f) stop → status ≡ stop_status stop
-    → IsExactly (λ s. s ≡ statuses.File) (IsFileRefused t f) (Source ⊎ Read ⊎ Sunk) status
-file_at Source Read Write First Sunk t f TooLong status first why same =
-    other_status _ _ _ status (λ e. cc) (λ r. absurd (why r.commands r.served))
-file_at Source Read Write First Sunk t f Unspelled status first why same =
-    other_status _ _ _ status (λ e. cc) (λ r. absurd (why r.commands r.served))
-file_at Source Read Write First Sunk t f Unread status first why same = other_status _ _ _ status (λ e. cc) (λ _. inr (same, inl why))
-file_at Source Read Write First Sunk t f Unserved status first why same = record { only = λ _. why.1; comes = λ _. inl same }
-file_at Source Read Write First Sunk t f Unreadable status first why same =
-    other_status _ _ _ status (λ e. cc) (λ _. inr (same, inr (inl why.0)))
-file_at Source Read Write First Sunk t f Unwritten status first why same =
-    other_status _ _ _ status (λ e. cc) (λ r. absurd (r.unserved why.1.both.image why.1.both.opens))
-file_at Source Read Write First Sunk t f Unprinted status first why same =
-    other_status _ _ _ status (λ e. cc) (λ _. inr (same, inr (inr (first why.0))))
-file_at Source Read Write First Sunk t f Memory status first why same = other_status _ _ _ status (λ e. cc) (λ _. inl same)
-file_at Source Read Write First Sunk t f Misused status first why same = absurd why
-
--- a call that stopped ends with a file's status exactly where it should
-pub file_stopped : (Source Read Write First Part Sunk : Type 0) (text : Option (List ℕ)) (files : Option Files) (stop : Stop) (status : Status)
-    → (First → Sunk) → (Part → Sunk) → IsCaused Source Read Write First text files stop → IsStopStatus Part stop status
-    → IfTold text (λ t. IfTold files (λ f. IsExactly (λ s. s ≡ statuses.File) (IsFileRefused t f) (Source ⊎ Read ⊎ Sunk) status))
-file_stopped Source Read Write First Part Sunk None files stop status first later why is = tt
-file_stopped Source Read Write First Part Sunk (Some t) None stop status first later why is = tt
-file_stopped Source Read Write First Part Sunk (Some t) (Some f) stop status first later why (inl same) =
-    file_at Source Read Write First Sunk t f stop status first why same
-file_stopped Source Read Write First Part Sunk (Some t) (Some f) stop status first later why (inr fault) =
-    other_status _ _ _ status (λ e. let same = fault.0 in cc) (λ _. inr (fault.0, inr (inr (later fault.1))))
-
 -- a status that is none of a run
 pub no_run : (status other : Status) → status ≡ other → other ≢ statuses.Done → other ≢ statuses.Refused → IsRunStatus status → ⊥
 no_run status other same done refused (inl is) = done (sym same ∙ is)
 no_run status other same done refused (inr is) = refused (sym same ∙ is)
 
--- a run's status, where text and files are told
-run_at : (Source Read Write First Sunk : Type 0) (t : List ℕ) (f : Files) (stop : Stop) (status : Status) → (First → Sunk)
-    → IsCaused Source Read Write First (Some t) (Some f) stop → status ≡ stop_status stop
-    → IsExactly IsRunStatus (CanRun t f) (Source ⊎ Read ⊎ Write ⊎ Sunk) status
-run_at Source Read Write First Sunk t f TooLong status first why same =
-    other_status _ _ _ status (no_run status _ same (λ e. cc) (λ e. cc)) (λ can. absurd (why can.commands can.served))
-run_at Source Read Write First Sunk t f Unspelled status first why same =
-    other_status _ _ _ status (no_run status _ same (λ e. cc) (λ e. cc)) (λ can. absurd (why can.commands can.served))
-run_at Source Read Write First Sunk t f Unread status first why same =
-    other_status _ _ _ status (no_run status _ same (λ e. cc) (λ e. cc)) (λ _. inr (same, inl why))
-run_at Source Read Write First Sunk t f Unserved status first why same =
-    other_status _ _ _ status (no_run status _ same (λ e. cc) (λ e. cc)) (λ can. absurd (why.1.unserved can.image can.opens))
-run_at Source Read Write First Sunk t f Unreadable status first why same =
-    other_status _ _ _ status (no_run status _ same (λ e. cc) (λ e. cc)) (λ _. inr (same, inr (inl why.0)))
-run_at Source Read Write First Sunk t f Unwritten status first why same =
-    other_status _ _ _ status (no_run status _ same (λ e. cc) (λ e. cc)) (λ _. inr (same, inr (inr (inl why.0))))
-run_at Source Read Write First Sunk t f Unprinted status first why same =
-    other_status _ _ _ status (no_run status _ same (λ e. cc) (λ e. cc)) (λ _. inr (same, inr (inr (inr (first why.0)))))
-run_at Source Read Write First Sunk t f Memory status first why same =
-    other_status _ _ _ status (no_run status _ same (λ e. cc) (λ e. cc)) (λ _. inl same)
-run_at Source Read Write First Sunk t f Misused status first why same = absurd why
+module _ {Image Command : Type 0} (rules : Rules Image Command) where
+  -- what was read is a script
+  pub script_told : (text left : Option (List ℕ)) (commands : List Command) → Commands_read rules text left commands → IsScriptTold rules text
+  script_told None left commands is = tt
+  script_told (Some t) left commands is = (commands, is.0)
 
--- a call that stopped ends with a run's status exactly where it should
-pub run_stopped : (Source Read Write First Part Sunk : Type 0) (text : Option (List ℕ)) (files : Option Files) (stop : Stop) (status : Status)
-    → (First → Sunk) → (Part → Sunk) → IsCaused Source Read Write First text files stop → IsStopStatus Part stop status
-    → IfTold text (λ t. IfTold files (λ f. IsExactly IsRunStatus (CanRun t f) (Source ⊎ Read ⊎ Write ⊎ Sunk) status))
-run_stopped Source Read Write First Part Sunk None files stop status first later why is = tt
-run_stopped Source Read Write First Part Sunk (Some t) None stop status first later why is = tt
-run_stopped Source Read Write First Part Sunk (Some t) (Some f) stop status first later why (inl same) =
-    run_at Source Read Write First Sunk t f stop status first why same
-run_stopped Source Read Write First Part Sunk (Some t) (Some f) stop status first later why (inr fault) =
-    other_status _ _ _ status (no_run status statuses.Fault fault.0 (λ e. cc) (λ e. cc)) (λ _. inr (fault.0, inr (inr (inr (later fault.1)))))
+  -- what was read can be run
+  pub can_run_told : (text left : Option (List ℕ)) (files : Option Files) (commands : List Command) (IsOf : Image → Type 0) → Commands_read rules text left commands
+      → IfTold files (OpensOf rules IsOf) → CanRunTold rules text files
+  can_run_told None left files commands IsOf is of = record { script = tt; both = tt }
+  can_run_told (Some t) left None commands IsOf is of = record { script = (commands, is.0); both = tt }
+  can_run_told (Some t) left (Some f) commands IsOf is of = record {
+    script = (commands, is.0);
+    both = record {
+      commands = commands;
+      served = is.0;
+      image = of.image;
+      opens = of.opens;
+    };
+  }
 
--- a run's status is none of a file
-pub file_ran : (Cause : Type 0) (text : Option (List ℕ)) (files : Option Files) (status : Status) → IsRunStatus status → CanRunTold text files
-    → IfTold text (λ t. IfTold files (λ f. IsExactly (λ s. s ≡ statuses.File) (IsFileRefused t f) Cause status))
-file_ran Cause None files status run can = tt
-file_ran Cause (Some t) None status run can = tt
-file_ran Cause (Some t) (Some f) status run can =
-    other_status _ _ _ status (λ e. no_run status statuses.File e (λ o. cc) (λ o. cc) run) (λ r. absurd (r.unserved can.both.image can.both.opens))
+  -- why there was no script
+  pub script_cause : (rose : Rises) (text left : Option (List ℕ)) (files : Option Files) (stop : Stop) → NoScript rules rose.source text left stop
+      → IsCaused rules rose text files stop
+  script_cause rose None left files TooLong why = tt
+  script_cause rose (Some t) left files TooLong why = λ commands served. absurd (omega (arith, why.0, served.short))
+  script_cause rose None left files Unspelled why = tt
+  script_cause rose (Some t) left files Unspelled why = λ commands served. why.1 commands served.script
+  script_cause rose text left files Unread why = why
+  script_cause rose text left files Memory why = tt
+  script_cause rose text left files stop why = absurd why
 
--- a run's status comes where the script can be run
-pub run_ran : (Cause : Type 0) (text : Option (List ℕ)) (files : Option Files) (status : Status) → IsRunStatus status → CanRunTold text files
-    → IfTold text (λ t. IfTold files (λ f. IsExactly IsRunStatus (CanRun t f) Cause status))
-run_ran Cause None files status run can = tt
-run_ran Cause (Some t) None status run can = tt
-run_ran Cause (Some t) (Some f) status run can = record { only = λ _. can.both; comes = λ _. inl run }
+  -- the file that was refused
+  refused_told : (text left : Option (List ℕ)) (files : Option Files) (commands : List Command) → Commands_read rules text left commands
+      → NoForm rules (Unit {0}) files Unserved → IfTold text (λ t. IfTold files (IsFileRefused rules t))
+  refused_told None left files commands is why = tt
+  refused_told (Some t) left None commands is why = tt
+  refused_told (Some t) left (Some f) commands is why = record { commands = commands; served = is.0; unserved = why }
+
+  -- why there was no form
+  pub form_cause : (rose : Rises) (text left : Option (List ℕ)) (files : Option Files) (commands : List Command) (stop : Stop)
+      → Commands_read rules text left commands → NoForm rules rose.reading files stop → IsCaused rules rose text files stop
+  form_cause rose text left files commands Unserved is why =
+      (script_told text left commands is, refused_told text left files commands is why)
+  form_cause rose text left files commands Unreadable is why = (why, script_told text left commands is)
+  form_cause rose text left files commands Memory is why = tt
+  form_cause rose text left files commands stop is why = absurd why
+
+  -- why the run of the commands stopped
+  pub stop_cause : (rose : Rises) (Part : Type 0) (text : Option (List ℕ)) (files : Option Files) (stop : Stop) → (Part → rose.writing)
+      → CanRunTold rules text files → IsRunStop Part rose.sink stop → IsCaused rules rose text files stop
+  stop_cause rose Part text files Unwritten wrote can why = (wrote why, can)
+  stop_cause rose Part text files Unprinted wrote can why = (why, can)
+  stop_cause rose Part text files Memory wrote can why = tt
+  stop_cause rose Part text files stop wrote can why = absurd why
+
+  -- a run of the commands that did not stop was one of what can be run
+  pub ok_able : (text : Option (List ℕ)) (files : Option Files) (result : Result Bool Stop) → CanRunTold rules text files → OnOk result (CanRunTold rules text files)
+  ok_able text files (Ok all_done) can = can
+  ok_able text files (Err stop) can = tt
+
+  -- why the run of the commands stopped, if it did
+  pub err_cause : (rose : Rises) (Part : Type 0) (text : Option (List ℕ)) (files : Option Files) (result : Result Bool Stop) → (Part → rose.writing)
+      → CanRunTold rules text files → IfErr result (IsRunStop Part rose.sink) → IfErr result (IsCaused rules rose text files)
+  err_cause rose Part text files (Ok all_done) wrote can why = tt
+  err_cause rose Part text files (Err stop) wrote can why = stop_cause rose Part text files stop wrote can why
+
+  -- a script's status, where the text is told
+  script_at : (rose : Rises) (First Part : Type 0) (t : List ℕ) (files : Option Files) (stop : Stop) (status : Status) → (First → rose.sink)
+      → IsCaused rules (record rose { sink = First }) (Some t) files stop → status ≡ stop_status stop
+      → IsExactly (λ s. s ≡ statuses.Script) (IsUnserved rules t) (rose.source ⊎ rose.sink) status
+  script_at rose First Part t files TooLong status first why same = record { only = λ _. why; comes = λ _. inl same }
+  script_at rose First Part t files Unspelled status first why same = record { only = λ _. why; comes = λ _. inl same }
+  script_at rose First Part t files Unread status first why same =
+      other_status _ _ _ status (λ e. cc) (λ _. inr (same, inl why))
+  script_at rose First Part t files Unserved status first why same =
+      other_status _ _ _ status (λ e. cc) (λ un. absurd (un why.0.0 why.0.1))
+  script_at rose First Part t files Unreadable status first why same =
+      other_status _ _ _ status (λ e. cc) (λ un. absurd (un why.1.0 why.1.1))
+  script_at rose First Part t files Unwritten status first why same =
+      other_status _ _ _ status (λ e. cc) (λ un. absurd (un why.1.script.0 why.1.script.1))
+  script_at rose First Part t files Unprinted status first why same =
+      other_status _ _ _ status (λ e. cc) (λ _. inr (same, inr (first why.0)))
+  script_at rose First Part t files Memory status first why same = other_status _ _ _ status (λ e. cc) (λ _. inl same)
+  script_at rose First Part t files Misused status first why same = absurd why
+
+  -- a call that stopped ends with a script's status exactly where it should
+  pub script_stopped : (rose : Rises) (First Part : Type 0) (text : Option (List ℕ)) (files : Option Files) (stop : Stop) (status : Status)
+      → (First → rose.sink) → (Part → rose.sink) → IsCaused rules (record rose { sink = First }) text files stop → IsStopStatus Part stop status
+      → IfTold text (λ t. IsExactly (λ s. s ≡ statuses.Script) (IsUnserved rules t) (rose.source ⊎ rose.sink) status)
+  script_stopped rose First Part None files stop status first later why is = tt
+  script_stopped rose First Part (Some t) files stop status first later why (inl same) =
+      script_at rose First Part t files stop status first why same
+  script_stopped rose First Part (Some t) files stop status first later why (inr fault) =
+      other_status _ _ _ status (λ e. let same = fault.0 in cc) (λ _. inr (fault.0, inr (later fault.1)))
+
+  -- a file's status, where text and files are told
+  file_at : (rose : Rises) (First : Type 0) (t : List ℕ) (f : Files) (stop : Stop) (status : Status) → (First → rose.sink)
+      → IsCaused rules (record rose { sink = First }) (Some t) (Some f) stop → status ≡ stop_status stop
+      → IsExactly (λ s. s ≡ statuses.File) (IsFileRefused rules t f) (rose.source ⊎ rose.reading ⊎ rose.sink) status
+  file_at rose First t f TooLong status first why same =
+      other_status _ _ _ status (λ e. cc) (λ r. absurd (why r.commands r.served))
+  file_at rose First t f Unspelled status first why same =
+      other_status _ _ _ status (λ e. cc) (λ r. absurd (why r.commands r.served))
+  file_at rose First t f Unread status first why same = other_status _ _ _ status (λ e. cc) (λ _. inr (same, inl why))
+  file_at rose First t f Unserved status first why same = record { only = λ _. why.1; comes = λ _. inl same }
+  file_at rose First t f Unreadable status first why same =
+      other_status _ _ _ status (λ e. cc) (λ _. inr (same, inr (inl why.0)))
+  file_at rose First t f Unwritten status first why same =
+      other_status _ _ _ status (λ e. cc) (λ r. absurd (r.unserved why.1.both.image why.1.both.opens))
+  file_at rose First t f Unprinted status first why same =
+      other_status _ _ _ status (λ e. cc) (λ _. inr (same, inr (inr (first why.0))))
+  file_at rose First t f Memory status first why same = other_status _ _ _ status (λ e. cc) (λ _. inl same)
+  file_at rose First t f Misused status first why same = absurd why
+
+  -- a call that stopped ends with a file's status exactly where it should
+  pub file_stopped : (rose : Rises) (First Part : Type 0) (text : Option (List ℕ)) (files : Option Files) (stop : Stop) (status : Status)
+      → (First → rose.sink) → (Part → rose.sink) → IsCaused rules (record rose { sink = First }) text files stop → IsStopStatus Part stop status
+      → IfTold text (λ t. IfTold files (λ f. IsExactly (λ s. s ≡ statuses.File) (IsFileRefused rules t f) (rose.source ⊎ rose.reading ⊎ rose.sink) status))
+  file_stopped rose First Part None files stop status first later why is = tt
+  file_stopped rose First Part (Some t) None stop status first later why is = tt
+  file_stopped rose First Part (Some t) (Some f) stop status first later why (inl same) =
+      file_at rose First t f stop status first why same
+  file_stopped rose First Part (Some t) (Some f) stop status first later why (inr fault) =
+      other_status _ _ _ status (λ e. let same = fault.0 in cc) (λ _. inr (fault.0, inr (inr (later fault.1))))
+
+  -- a run's status, where text and files are told
+  run_at : (rose : Rises) (First : Type 0) (t : List ℕ) (f : Files) (stop : Stop) (status : Status) → (First → rose.sink)
+      → IsCaused rules (record rose { sink = First }) (Some t) (Some f) stop → status ≡ stop_status stop
+      → IsExactly IsRunStatus (CanRun rules t f) (rose.source ⊎ rose.reading ⊎ rose.writing ⊎ rose.sink) status
+  run_at rose First t f TooLong status first why same =
+      other_status _ _ _ status (no_run status _ same (λ e. cc) (λ e. cc)) (λ can. absurd (why can.commands can.served))
+  run_at rose First t f Unspelled status first why same =
+      other_status _ _ _ status (no_run status _ same (λ e. cc) (λ e. cc)) (λ can. absurd (why can.commands can.served))
+  run_at rose First t f Unread status first why same =
+      other_status _ _ _ status (no_run status _ same (λ e. cc) (λ e. cc)) (λ _. inr (same, inl why))
+  run_at rose First t f Unserved status first why same =
+      other_status _ _ _ status (no_run status _ same (λ e. cc) (λ e. cc)) (λ can. absurd (why.1.unserved can.image can.opens))
+  run_at rose First t f Unreadable status first why same =
+      other_status _ _ _ status (no_run status _ same (λ e. cc) (λ e. cc)) (λ _. inr (same, inr (inl why.0)))
+  run_at rose First t f Unwritten status first why same =
+      other_status _ _ _ status (no_run status _ same (λ e. cc) (λ e. cc)) (λ _. inr (same, inr (inr (inl why.0))))
+  run_at rose First t f Unprinted status first why same =
+      other_status _ _ _ status (no_run status _ same (λ e. cc) (λ e. cc)) (λ _. inr (same, inr (inr (inr (first why.0)))))
+  run_at rose First t f Memory status first why same =
+      other_status _ _ _ status (no_run status _ same (λ e. cc) (λ e. cc)) (λ _. inl same)
+  run_at rose First t f Misused status first why same = absurd why
+
+  -- a call that stopped ends with a run's status exactly where it should
+  pub run_stopped : (rose : Rises) (First Part : Type 0) (text : Option (List ℕ)) (files : Option Files) (stop : Stop) (status : Status)
+      → (First → rose.sink) → (Part → rose.sink) → IsCaused rules (record rose { sink = First }) text files stop → IsStopStatus Part stop status
+      → IfTold text (λ t. IfTold files (λ f. IsExactly IsRunStatus (CanRun rules t f) (rose.source ⊎ rose.reading ⊎ rose.writing ⊎ rose.sink) status))
+  run_stopped rose First Part None files stop status first later why is = tt
+  run_stopped rose First Part (Some t) None stop status first later why is = tt
+  run_stopped rose First Part (Some t) (Some f) stop status first later why (inl same) =
+      run_at rose First t f stop status first why same
+  run_stopped rose First Part (Some t) (Some f) stop status first later why (inr fault) =
+      other_status _ _ _ status (no_run status statuses.Fault fault.0 (λ e. cc) (λ e. cc)) (λ _. inr (fault.0, inr (inr (inr (later fault.1)))))
+
+  -- a run's status is none of a file
+  pub file_ran : (Cause : Type 0) (text : Option (List ℕ)) (files : Option Files) (status : Status) → IsRunStatus status → CanRunTold rules text files
+      → IfTold text (λ t. IfTold files (λ f. IsExactly (λ s. s ≡ statuses.File) (IsFileRefused rules t f) Cause status))
+  file_ran Cause None files status run can = tt
+  file_ran Cause (Some t) None status run can = tt
+  file_ran Cause (Some t) (Some f) status run can =
+      other_status _ _ _ status (λ e. no_run status statuses.File e (λ o. cc) (λ o. cc) run) (λ r. absurd (r.unserved can.both.image can.both.opens))
+
+  -- a run's status comes where the script can be run
+  pub run_ran : (Cause : Type 0) (text : Option (List ℕ)) (files : Option Files) (status : Status) → IsRunStatus status → CanRunTold rules text files
+      → IfTold text (λ t. IfTold files (λ f. IsExactly IsRunStatus (CanRun rules t f) Cause status))
+  run_ran Cause None files status run can = tt
+  run_ran Cause (Some t) None status run can = tt
+  run_ran Cause (Some t) (Some f) status run can = record { only = λ _. can.both; comes = λ _. inl run }

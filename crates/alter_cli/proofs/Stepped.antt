@@ -14,7 +14,7 @@ use Rattle.alter_cli.specs.declared.verdict.Refusal.{Refusal}
 use Rattle.alter_cli.specs.declared.verdict.Refusal.TheVariants.{ColumnTaken, TooManyColumns, Unbuilt}
 use Rattle.alter_cli.specs.declared.verdict.Verdict.{Verdict}
 use Rattle.alter_cli.specs.declared.verdict.Verdict.TheVariants.{Done, Refused}
-use Rattle.alter_cli.specs.Ending.{left_by}
+use Rattle.alter_cli.specs.Carried.{left_by}
 use Rattle.alter_cli.specs.FirstForm.{AreFiles, IsFirstForm, first_page, header_of, rows_of}
 use Rattle.alter_cli.specs.Header.{committed, page_size, usable_size}
 use Rattle.alter_cli.specs.Image.{Image}

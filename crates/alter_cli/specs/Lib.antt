@@ -1,6 +1,13 @@
 pub mod Status
 pub mod Lines
 pub mod Given
+pub mod Rules
+pub mod Run
+pub mod Outcome
+pub mod Causes
+pub mod Ending
+pub mod StopOf
+pub mod Stops
 pub mod Image
 pub mod Header
 pub mod Sizes
@@ -9,8 +16,5 @@ pub mod FirstForm
 pub mod Served
 pub mod Step
 pub mod Plan
-pub mod Run
-pub mod Outcome
-pub mod StopOf
-pub mod Ending
-pub mod Causes
+pub mod Opens
+pub mod Carried

@@ -2,17 +2,12 @@
 use Rattle.std.specs.Prelude.{◌≡◌, ◌≤◌, ◌<◌, ℕ, ◌+◌, ◌⊎◌, Bool, true, false, List, [], ◌∷◌, ◌++◌, length, take, drop, slice_get, Option, Some, None}
 use Rattle.std.specs.List.{list_all}
 use Rattle.alter_disk.specs.Files.{Files}
-use Rattle.plain_sql.specs.declared.script.Command.{Command}
-use Rattle.alter_cli.specs.declared.table.Table.{Table}
+use Rattle.alter_disk.specs.Outside.{ReadRose, Rises}
 use Rattle.alter_cli.specs.declared.verdict.Verdict.{Verdict}
 use Rattle.alter_cli.specs.declared.verdict.Verdict.TheVariants as verdicts
 use Rattle.alter_cli.specs.declared.status.Status.{Status}
 use Rattle.alter_cli.specs.declared.status.Status.TheVariants.{Done, Refused, Script, File, Fault, Memory, Usage}
-use Rattle.alter_cli.specs.Image.{Image}
-use Rattle.alter_cli.specs.Header.{page_size}
-use Rattle.plain_sql.specs.Script.{IsScript}
-use Rattle.alter_cli.specs.FirstForm.{AreFiles, IsFirstForm}
-use Rattle.alter_cli.specs.Step.{Step}
+use Rattle.alter_cli.specs.Rules.{Rules}
 use Rattle.alter_cli.specs.Run.{Run}
 use Rattle.alter_cli.specs.Lines.{verdict_lines, usage_line, too_long_line, script_unbuilt_line, file_unbuilt_line, fault_read_line, fault_write_line, memory_line}
 
@@ -27,108 +22,116 @@ file_of (program ∷ []) = None
 file_of (program ∷ file ∷ []) = Some file
 file_of (program ∷ file ∷ word ∷ words) = None
 
--- the text is a script, not too long, of these commands
-pub record IsServed (text : List ℕ) (commands : List Command) : Type 0 where
-  pub short : length text ≤ script_limit
-  pub script : IsScript text commands
-
--- the files have an image that is served
-pub record Opens (before : Files) (image : Image) : Type 0 where
-  pub files : AreFiles before image
-  pub tables : List Table
-  pub form : IsFirstForm image tables
-
--- The first so many commands of the script were run on the image of the files before, with these verdicts,
--- and the image after them is this.
-pub record Ran (text : List ℕ) (before : Files) (count : ℕ) (verdicts : List Verdict) (last : Image) : Type 0 where
-  pub commands : List Command
-  pub served : IsServed text commands
-  pub image : Image
-  pub opens : Opens before image
-  pub run : Run image (take count commands) verdicts last
-
--- every command of the script was run
-pub record RanAll (text : List ℕ) (before : Files) (verdicts : List Verdict) (last : Image) : Type 0 where
-  pub commands : List Command
-  pub served : IsServed text commands
-  pub image : Image
-  pub opens : Opens before image
-  pub run : Run image commands verdicts last
-
+-- whether the command is done
 abbrev pub is_done : Verdict → Bool
 is_done verdicts.Done = true
 is_done (verdicts.Refused refusal) = false
 
--- page 1 may hold anything; the other pages, the length and the journal are the same
-pub record IsFirstTorn (size : ℕ) (before after : Files) : Type 0 where
-  pub journal : after.journal ≡ before.journal
-  pub extent : length after.db ≡ length before.db
-  pub others : drop size after.db ≡ drop size before.db
-
--- the command behind the first so many is done on this image
-pub record IsNextDone (text : List ℕ) (count : ℕ) (image : Image) : Type 0 where
-  pub commands : List Command
-  pub served : IsServed text commands
-  pub command : Command
-  pub next : slice_get commands count ≡ Some command
-  pub new : Image
-  pub step : Step image command verdicts.Done new
-
--- nothing was run and the files are as they were, or some commands were run on the disk, and the files have the image after
--- them
-abbrev pub Stopped : List ℕ → Files → List Verdict → Files → Bool → Type 0
-Stopped text before verdicts after called =
-    ((verdicts ≡ []) × (after ≡ before))
-    ⊎ ((count : ℕ) × (last : Image) × Ran text before count verdicts last × AreFiles after last × (called ≡ true))
-
--- some commands were run, and the next one, which is done, was being written on page 1 of the files that they left
-abbrev pub StoppedWriting : List ℕ → Files → List Verdict → Files → Type 0
-StoppedWriting text before verdicts after =
-    (count : ℕ) × (last : Image) × (files : Files) × Ran text before count verdicts last × AreFiles files last
-    × IsNextDone text count last × IsFirstTorn (page_size (take 100 files.db)) files after
-
--- How a call ends with this status: the verdicts that it gives, the line behind theirs, the files after it, whether
--- the disk was called, and what is left of the script. The first four say that a read of the script, a reading or a
--- writing of the disk, or the sink has failed in the call.
-abbrev pub Outcome : Type 0 → Type 0 → Type 0 → Type 0 → List ℕ → Files → Status → List Verdict → List ℕ → Files → Bool → List ℕ → Type 0
-Outcome Unread Read Write Sunk text before Done verdicts last after called left =
-    (image : Image) × RanAll text before verdicts image × AreFiles after image × (list_all is_done verdicts ≡ true) × (last ≡ []) × (left ≡ [])
-    × (called ≡ true)
-Outcome Unread Read Write Sunk text before Refused verdicts last after called left =
-    (image : Image) × RanAll text before verdicts image × AreFiles after image × (list_all is_done verdicts ≡ false) × (last ≡ []) × (left ≡ [])
-    × (called ≡ true)
-Outcome Unread Read Write Sunk text before Script verdicts last after called left =
-    (verdicts ≡ []) × (after ≡ before) × (called ≡ false)
-    × (((script_limit < length text) × (last ≡ too_long_line) × (left ≡ drop (script_limit + 1) text))
-    ⊎ ((length text ≤ script_limit) × ((commands : List Command) → IsScript text commands → ⊥) × (last ≡ script_unbuilt_line) × (left ≡ [])))
-Outcome Unread Read Write Sunk text before File verdicts last after called left =
-    (verdicts ≡ []) × (after ≡ before) × (called ≡ true) × (last ≡ file_unbuilt_line) × (left ≡ [])
-    × ((commands : List Command) × IsServed text commands) × ((image : Image) → Opens before image → ⊥)
-Outcome Unread Read Write Sunk text before Fault verdicts last after called left =
-    (Unread × (verdicts ≡ []) × (after ≡ before) × (last ≡ fault_read_line) × (called ≡ false))
-    ⊎ (Read × ((commands : List Command) × IsServed text commands) × (verdicts ≡ []) × (after ≡ before) × (last ≡ fault_read_line) × (called ≡ true))
-    ⊎ (Write × StoppedWriting text before verdicts after × (last ≡ fault_write_line) × (called ≡ true))
-    ⊎ (Sunk × Stopped text before verdicts after called × (last ≡ []))
-Outcome Unread Read Write Sunk text before Memory verdicts last after called left = Stopped text before verdicts after called × (last ≡ memory_line)
-Outcome Unread Read Write Sunk text before Usage verdicts last after called left = ⊥
+-- the last line that goes with a status, by the counts that rose
+abbrev pub IsLastLine : Rises → Status → List ℕ → Type 0
+IsLastLine rose Done line = line ≡ []
+IsLastLine rose Refused line = line ≡ []
+IsLastLine rose Script line = (line ≡ too_long_line) ⊎ (line ≡ script_unbuilt_line)
+IsLastLine rose File line = line ≡ file_unbuilt_line
+IsLastLine rose Fault line = (ReadRose rose × (line ≡ fault_read_line)) ⊎ (rose.writing × (line ≡ fault_write_line)) ⊎ (rose.sink × (line ≡ []))
+IsLastLine rose Memory line = line ≡ memory_line
+IsLastLine rose Usage line = line ≡ usage_line
 
 -- A sink was given the lines of the verdicts and one line more, or, after a failure, these up to a place in the last of
 -- them, which is the last verdict's where there is no line more.
-abbrev pub Told : Type 0 → Status → List Verdict → List ℕ → List ℕ → List ℕ → Status → Type 0
-Told Sunk planned verdicts last given now status =
+abbrev pub Told : Rises → Status → List Verdict → List ℕ → List ℕ → List ℕ → Status → Type 0
+Told rose planned verdicts last given now status =
     ((status ≡ planned) × (now ≡ given ++ verdict_lines 1 verdicts ++ last))
-    ⊎ (Sunk × (status ≡ Fault) × ((printed : List Verdict) × (others : List Verdict) × (front : List ℕ) × (rest : List ℕ)
+    ⊎ (rose.sink × (status ≡ Fault) × ((printed : List Verdict) × (others : List Verdict) × (front : List ℕ) × (rest : List ℕ)
     × (verdicts ≡ printed ++ others) × (length others ≤ 1) × ((others ≡ []) ⊎ (last ≡ [])) × (now ≡ given ++ verdict_lines 1 printed ++ front)
     × (verdict_lines (1 + length printed) others ++ last ≡ front ++ rest)))
 
--- the call with a file's name ended with this status, and the sink that had `given` has `now`
-pub record Performed (Unread Read Write Sunk : Type 0) (text : List ℕ) (before after : Files) (called : Bool) (left given now : List ℕ) (status : Status) : Type 0 where
+-- the sink was given the lines of some verdicts, from 1 on, and then the last line of the status, or a front of such lines
+-- after a failure of the sink
+pub record Printed (rose : Rises) (given now : List ℕ) (status : Status) : Type 0 where
   pub planned : Status
   pub verdicts : List Verdict
   pub last : List ℕ
-  pub outcome : Outcome Unread Read Write Sunk text before planned verdicts last after called left
-  pub told : Told Sunk planned verdicts last given now status
+  pub line : IsLastLine rose planned last
+  pub told : Told rose planned verdicts last given now status
 
 -- the call whose words name no file ended with this status
-abbrev pub Misused : Type 0 → List ℕ → List ℕ → Status → Type 0
-Misused Sunk given now status = Told Sunk Usage [] usage_line given now status
+abbrev pub Misused : Rises → List ℕ → List ℕ → Status → Type 0
+Misused rose given now status = Told rose Usage [] usage_line given now status
+
+module _ {Image Command : Type 0} (rules : Rules Image Command) where
+  -- the text is a script, not too long, of these commands
+  pub record IsServed (text : List ℕ) (commands : List Command) : Type 0 where
+    pub short : length text ≤ script_limit
+    pub script : rules.IsScript text commands
+
+  -- The first so many commands of the script were run on the image of the files before, with these verdicts,
+  -- and the image after them is this.
+  pub record Ran (text : List ℕ) (before : Files) (count : ℕ) (verdicts : List Verdict) (last : Image) : Type 0 where
+    pub commands : List Command
+    pub served : IsServed text commands
+    pub image : Image
+    pub opens : rules.Opens before image
+    pub run : Run rules image (take count commands) verdicts last
+
+  -- every command of the script was run
+  pub record RanAll (text : List ℕ) (before : Files) (verdicts : List Verdict) (last : Image) : Type 0 where
+    pub commands : List Command
+    pub served : IsServed text commands
+    pub image : Image
+    pub opens : rules.Opens before image
+    pub run : Run rules image commands verdicts last
+
+  -- the command behind the first so many is done on this image
+  pub record IsNextDone (text : List ℕ) (count : ℕ) (image : Image) : Type 0 where
+    pub commands : List Command
+    pub served : IsServed text commands
+    pub command : Command
+    pub next : slice_get commands count ≡ Some command
+    pub new : Image
+    pub step : rules.Step image command verdicts.Done new
+
+  -- nothing was run and the files are as they were, or some commands were run on the disk, and the files have the image after
+  -- them
+  abbrev pub Stopped : List ℕ → Files → List Verdict → Files → Bool → Type 0
+  Stopped text before verdicts after called =
+      ((verdicts ≡ []) × (after ≡ before))
+      ⊎ ((count : ℕ) × (last : Image) × Ran text before count verdicts last × rules.AreFiles after last × (called ≡ true))
+
+  -- some commands were run, and the next one, which is done, was being written on the files that they left
+  abbrev pub StoppedWriting : List ℕ → Files → List Verdict → Files → Type 0
+  StoppedWriting text before verdicts after =
+      (count : ℕ) × (last : Image) × (files : Files) × Ran text before count verdicts last × rules.AreFiles files last
+      × IsNextDone text count last × rules.IsTorn files after
+
+  -- How a call ends with this status, by the counts that rose in it: the verdicts that it gives, the line behind theirs,
+  -- the files after it, whether the disk was called, and what is left of the script.
+  abbrev pub Outcome : Rises → List ℕ → Files → Status → List Verdict → List ℕ → Files → Bool → List ℕ → Type 0
+  Outcome rose text before Done verdicts last after called left =
+      (image : Image) × RanAll text before verdicts image × rules.AreFiles after image × (list_all is_done verdicts ≡ true) × (last ≡ []) × (left ≡ [])
+      × (called ≡ true)
+  Outcome rose text before Refused verdicts last after called left =
+      (image : Image) × RanAll text before verdicts image × rules.AreFiles after image × (list_all is_done verdicts ≡ false) × (last ≡ []) × (left ≡ [])
+      × (called ≡ true)
+  Outcome rose text before Script verdicts last after called left =
+      (verdicts ≡ []) × (after ≡ before) × (called ≡ false)
+      × (((script_limit < length text) × (last ≡ too_long_line) × (left ≡ drop (script_limit + 1) text))
+      ⊎ ((length text ≤ script_limit) × ((commands : List Command) → rules.IsScript text commands → ⊥) × (last ≡ script_unbuilt_line) × (left ≡ [])))
+  Outcome rose text before File verdicts last after called left =
+      (verdicts ≡ []) × (after ≡ before) × (called ≡ true) × (last ≡ file_unbuilt_line) × (left ≡ [])
+      × ((commands : List Command) × IsServed text commands) × ((image : Image) → rules.Opens before image → ⊥)
+  Outcome rose text before Fault verdicts last after called left =
+      (rose.source × (verdicts ≡ []) × (after ≡ before) × (last ≡ fault_read_line) × (called ≡ false))
+      ⊎ (rose.reading × ((commands : List Command) × IsServed text commands) × (verdicts ≡ []) × (after ≡ before) × (last ≡ fault_read_line) × (called ≡ true))
+      ⊎ (rose.writing × StoppedWriting text before verdicts after × (last ≡ fault_write_line) × (called ≡ true))
+      ⊎ (rose.sink × Stopped text before verdicts after called × (last ≡ []))
+  Outcome rose text before Memory verdicts last after called left = Stopped text before verdicts after called × (last ≡ memory_line)
+  Outcome rose text before Usage verdicts last after called left = ⊥
+
+  -- the call with a file's name ended with this status, and the sink that had `given` has `now`
+  pub record Performed (rose : Rises) (text : List ℕ) (before after : Files) (called : Bool) (left given now : List ℕ) (status : Status) : Type 0 where
+    pub planned : Status
+    pub verdicts : List Verdict
+    pub last : List ℕ
+    pub outcome : Outcome rose text before planned verdicts last after called left
+    pub told : Told rose planned verdicts last given now status

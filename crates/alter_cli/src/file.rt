@@ -5,7 +5,7 @@ ghost use Rattle.alter_disk.specs.Changes.{IfTold};
 ghost use Rattle.alter_cli.specs.Image.{Image};
 ghost use Rattle.alter_cli.specs.Sizes.{AreSound};
 ghost use Rattle.alter_cli.specs.Served.{AreOfForm, HasEmptyRoot, HasRead, IsFirstPage, IsReady, IsReadyFirst, OnlyFirstPage};
-ghost use Rattle.alter_cli.specs.Outcome.{Opens};
+ghost use Rattle.alter_cli.specs.Opens.{Opens};
 
 use crate::form::Form;
 use crate::header::{HEADER_LEN, Sizes, read_header};

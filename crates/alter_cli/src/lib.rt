@@ -4,7 +4,7 @@
 mod file;
 mod form;
 mod header;
-mod lines;
+mod opening;
 mod pages;
 mod perform;
 mod plan;

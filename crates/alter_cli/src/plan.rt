@@ -1,6 +1,9 @@
 //! What a command makes of a file.
+ghost use Rattle.std.specs.Prelude.{◌≡◌};
+ghost use Rattle.alter_cli.specs.Carried.{verdict_of};
+
 use crate::table::Table;
-use crate::verdict::Refusal;
+use crate::verdict::{Refusal, Verdict};
 use alter_bytes::Bytes;
 
 /// What a command that is done changes.
@@ -19,4 +22,16 @@ pub struct Change {
 pub enum Plan {
     Refused(Refusal),
     Changed(Change),
+}
+
+impl Plan {
+    /// The verdict on its command.
+    pub fn verdict(&self) -> Verdict
+        ensures { result ≡ verdict_of self.now }
+    {
+        match self {
+            Plan::Refused(refusal) => Verdict::Refused(*refusal),
+            Plan::Changed(_) => Verdict::Done,
+        }
+    }
 }

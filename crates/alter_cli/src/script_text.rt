@@ -1,10 +1,17 @@
-//! The script's text out of its source.
-ghost use Rattle.std.specs.Prelude.{◌≡◌, ◌≤◌, ◌<◌, ◌+◌, [], length, drop, Some, IfOk, IsErrOf, is_some, IsSomeAnd};
+//! The script's text out of its source, and its commands.
+ghost use Rattle.std.specs.Prelude.{◌≡◌, ◌≤◌, ◌<◌, ◌+◌, [], ◌^◌, length, drop, Some, IfOk, IfErr, IsErrOf, is_some, IsSomeAnd};
+ghost use Rattle.std.specs.List.{AllByRecursion};
 ghost use Rattle.alter_disk.specs.Changes.{IfTold};
-ghost use Rattle.alter_disk.specs.Faults.{Rose};
+ghost use Rattle.alter_disk.specs.Uses.{SourceFailed};
+ghost use Rattle.plain_sql.specs.Script.{IsPlainCommand};
 ghost use Rattle.alter_cli.specs.Causes.{IsFrontTaken};
+ghost use Rattle.alter_cli.specs.Opens.{first_rules};
+ghost use Rattle.alter_cli.specs.Outcome.{IsServed};
+ghost use Rattle.alter_cli.specs.Stops.{NoScript};
 
+use crate::stop::Stop;
 use alter_disk::{Failed, Source};
+use plain_sql::{Command, read_script};
 use std::alloc::{AllocError, Global};
 
 /// The longest script, in bytes.
@@ -43,6 +50,21 @@ impl From<Failed> for NoText {
     }
 }
 
+impl From<NoText> for Stop {
+    ghost use Rattle.alter_cli.specs.StopOf.{stop_of_text};
+    ghost use Rattle.std.specs.Prelude.{◌≡◌};
+
+    ghost from_gives = { λ fault e. e ≡ stop_of_text fault };
+
+    fn from(fault: NoText) -> Stop {
+        match fault {
+            NoText::Memory => Stop::Memory,
+            NoText::Failed => Stop::Unread,
+            NoText::TooLong => Stop::TooLong,
+        }
+    }
+}
+
 /// Reads the source to its end, or to the first byte past the limit.
 pub fn read_text<S: Source>(alloc: Global, script: &mut S) -> Result<Vec<u8>, NoText>
     ensures limit { IfOk result (λ text. length text.items ≤ SCRIPT_LIMIT) }
@@ -52,7 +74,7 @@ pub fn read_text<S: Source>(alloc: Global, script: &mut S) -> Result<Vec<u8>, No
     ensures past { IsErrOf result NoText.TooLong → IfTold (S.left script.old) (λ bytes. S.left script.new ≡ Some (drop (SCRIPT_LIMIT + 1) bytes)) }
     ensures told { is_some (S.left script.new) ≡ is_some (S.left script.old) }
     ensures taken { IfTold (S.left script.old) (λ bytes. IsSomeAnd (S.left script.new) (IsFrontTaken bytes)) }
-    ensures failed { IsErrOf result NoText.Failed → Rose (S.faults script.old) (S.faults script.new) }
+    ensures failed { IsErrOf result NoText.Failed → SourceFailed S.Source script.old script.new }
     ensures later { S.faults script.old ≤ S.faults script.new }
 {
     let mut text = Vec::new(alloc);
@@ -66,4 +88,21 @@ pub fn read_text<S: Source>(alloc: Global, script: &mut S) -> Result<Vec<u8>, No
         text.extend_from_slice(&chunk[..count])?;
     }
     Err(NoText::TooLong)
+}
+
+/// Reads the script.
+pub fn read_commands<S: Source>(alloc: Global, script: &mut S) -> Result<Vec<Command>, Stop>
+    ensures found { IfOk result (λ commands. IfTold (S.left script.old) (λ text. IsServed first_rules text commands.items × (S.left script.new ≡ Some []))) }
+    ensures plain { IfOk result (λ commands. AllByRecursion IsPlainCommand commands.items) }
+    ensures small { IfOk result (λ commands. AllByRecursion (λ command. length command.column < 2 ^ 30) commands.items) }
+    ensures told { is_some (S.left script.new) ≡ is_some (S.left script.old) }
+    ensures taken { IfTold (S.left script.old) (λ text. IsSomeAnd (S.left script.new) (IsFrontTaken text)) }
+    ensures stop { IfErr result (NoScript first_rules (SourceFailed S.Source script.old script.new) (S.left script.old) (S.left script.new)) }
+    ensures later { S.faults script.old ≤ S.faults script.new }
+{
+    let text = read_text(alloc, script)?;
+    match read_script(alloc, text.as_slice())? {
+        Some(commands) => Ok(commands),
+        None => Err(Stop::Unspelled),
+    }
 }

@@ -1,8 +1,6 @@
 //! Why a call ends before all its commands are run.
 ghost use Rattle.std.specs.Prelude.{◌≡◌};
 
-use crate::file::ReadFault;
-use crate::script_text::NoText;
 use crate::status::Status;
 use std::alloc::AllocError;
 
@@ -39,37 +37,8 @@ impl From<AllocError> for Stop {
     }
 }
 
-impl From<NoText> for Stop {
-    ghost use Rattle.alter_cli.specs.StopOf.{stop_of_text};
-    ghost use Rattle.std.specs.Prelude.{◌≡◌};
-
-    ghost from_gives = { λ fault e. e ≡ stop_of_text fault };
-
-    fn from(fault: NoText) -> Stop {
-        match fault {
-            NoText::Memory => Stop::Memory,
-            NoText::Failed => Stop::Unread,
-            NoText::TooLong => Stop::TooLong,
-        }
-    }
-}
-
-impl From<ReadFault> for Stop {
-    ghost use Rattle.alter_cli.specs.StopOf.{stop_of_read};
-    ghost use Rattle.std.specs.Prelude.{◌≡◌};
-
-    ghost from_gives = { λ fault e. e ≡ stop_of_read fault };
-
-    fn from(fault: ReadFault) -> Stop {
-        match fault {
-            ReadFault::Memory => Stop::Memory,
-            ReadFault::Failed => Stop::Unreadable,
-        }
-    }
-}
-
 impl Stop {
-    ghost use Rattle.alter_cli.specs.Ending.{stop_status, stop_line};
+    ghost use Rattle.alter_cli.specs.Stops.{stop_status, stop_line};
 
     /// The status of the call.
     pub fn status(&self) -> Status

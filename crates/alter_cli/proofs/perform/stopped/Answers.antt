@@ -2,8 +2,8 @@ use Rattle.std.proofs.Common.{List, ℕ, ◌++◌, ◌≡◌, ◌∙◌, sym, op
 use Rattle.alter_disk.specs.Faults.{Rose}
 use Rattle.alter_disk.specs.Changes.{IfTold}
 use Rattle.alter_cli.specs.declared.status.Status.{Status}
-use Rattle.alter_cli.specs.Given.{HasFront}
-use Rattle.alter_cli.specs.Ending.{IsLast}
+use Rattle.alter_cli.specs.Given.{WroteFront}
+use Rattle.alter_cli.specs.Stops.{IsLast}
 use Rattle.alter_cli.proofs.FinishLemmas.{last_ok, last_err}
 use Rattle.alter_cli.proofs.perform.stopped.Goals as goal
 
@@ -21,4 +21,4 @@ returns-in-Err-clause-told g c =
     let had = g.K.Sink.written c.args.out.now in
     let now = g.K.Sink.written c.print.new.out in
     last_err (Rose (g.K.Sink.faults c.args.out.now) (g.K.Sink.faults c.print.new.out)) c.args.stop.now had now c.in-Err.ensures.cause.failed
-    (subst (λ (l : List ℕ). IfTold had (λ w. HasFront w l now)) (c.as_bytes.ensures.value ∙ c.line.ensures) c.in-Err.ensures.front)
+    (subst (λ (l : List ℕ). IfTold had (λ w. WroteFront w l now)) (c.as_bytes.ensures.value ∙ c.line.ensures) c.in-Err.ensures.front)

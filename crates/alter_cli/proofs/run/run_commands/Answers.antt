@@ -2,10 +2,12 @@ use Rattle.std.proofs.Common.{arith, ◌≡◌, ◌&&◌, ◌<◌, ◌+◌, ◌^
 use Rattle.std.proofs.lemmas.Option.{slice_get_read}
 use Rattle.alter_disk.specs.Faults.{Rose}
 use Rattle.plain_sql.specs.declared.script.Command.{Command}
-use Rattle.alter_cli.specs.Ending.{RanEach, StoppedAt}
+use Rattle.alter_cli.specs.Opens.{first_rules}
 use Rattle.alter_cli.specs.Outcome.{is_done}
+use Rattle.alter_cli.specs.Stops.{RanEach, StoppedAt}
 use Rattle.common_laws.proofs.Each.{at_index}
-use Rattle.alter_cli.proofs.Reached.{Reached, is_next, of_form, reached_all, reached_more, reached_none, reached_stop, run_cause}
+use Rattle.alter_cli.proofs.Printed.{gave_all, gave_more, gave_none}
+use Rattle.alter_cli.proofs.Reached.{Reached, gave_stop, is_next, of_form, reached_all, reached_more, reached_none, reached_stop, run_cause}
 use Rattle.alter_cli.proofs.run.run_commands.Goals as goal
 use Rattle.alter_cli.proofs.run.run_commands.Goals.{then-all_done, else-all_done}
 
@@ -14,9 +16,8 @@ loop-command-init g c = record {
   reached = reached_none (g.D.Disk.files c.args.disk.now) (g.K.Sink.written c.args.out.now) c.args.form;
   ready = c.requires.ready;
   number = refl;
-  telling = refl;
-  rest = record { label = refl; called = refl; opened = refl; other = refl };
-  writes = omega arith;
+  printed = gave_none (g.K.Sink.written c.args.out.now);
+  writes = record { telling = refl; label = refl; called = refl; later = omega arith; reads_stay = refl };
   sink = omega arith;
 }
 
@@ -32,12 +33,12 @@ returns-in-Err-clause-stop g c =
     let write = Rose (g.D.Disk.write_faults c.args.disk.now) (g.D.Disk.write_faults c.run_command.new.disk) in
     let sunk = Rose (g.K.Sink.faults c.args.out.now) (g.K.Sink.faults c.run_command.new.out) in
     of_form (g.D.Disk.files c.args.disk.now) (g.K.Sink.written c.args.out.now) c.args.form _
-    (λ image given. StoppedAt write sunk image c.args.commands.now given (g.D.Disk.files c.run_command.new.disk) (g.K.Sink.written c.run_command.new.out) c.in-Err.stop)
+    (λ image given. StoppedAt first_rules write sunk image c.args.commands.now given (g.D.Disk.files c.run_command.new.disk) (g.K.Sink.written c.run_command.new.out) c.in-Err.stop)
     (λ image given. reached_stop (Rose (g.D.Disk.write_faults c.loop-command.disk) (g.D.Disk.write_faults c.run_command.new.disk))
     (Rose (g.K.Sink.faults c.loop-command.out) (g.K.Sink.faults c.run_command.new.out)) write sunk image c.args.commands.now given c.loop-command.command-index
     (c.loop-command.number + 1) c.command-item.result c.loop-command.form (g.D.Disk.files c.loop-command.disk) (g.D.Disk.files c.run_command.new.disk)
     (g.K.Sink.written c.loop-command.out) (g.K.Sink.written c.run_command.new.out) c.loop-command.all_done c.in-Err.stop
-    (λ r. omega (arith, c.loop-command.invariant.writes, r)) (λ r. omega (arith, c.loop-command.invariant.sink, r))
+    (λ r. omega (arith, c.loop-command.invariant.writes.later, r)) (λ r. omega (arith, c.loop-command.invariant.sink, r))
     next c.loop-command.invariant.ready c.in-Err.ensures.stop)
     c.loop-command.invariant.reached
 
@@ -49,7 +50,7 @@ returns-in-Err-clause-cause g c =
     (Rose (g.K.Sink.faults c.args.out.now) (g.K.Sink.faults c.run_command.new.out)) c.loop-command.form
     (c.loop-command.number + 1) c.command-item.result (g.D.Disk.files c.loop-command.disk) (g.D.Disk.files c.run_command.new.disk)
     (g.K.Sink.written c.loop-command.out) (g.K.Sink.written c.run_command.new.out) c.in-Err.stop
-    (λ r. omega (arith, c.loop-command.invariant.writes, r)) (λ r. omega (arith, c.loop-command.invariant.sink, r)) c.in-Err.ensures.stop
+    (λ r. omega (arith, c.loop-command.invariant.writes.later, r)) (λ r. omega (arith, c.loop-command.invariant.sink, r)) c.in-Err.ensures.stop
 
 pub loop-command-preserved : goal.loop-command-preserved
 loop-command-preserved g c =
@@ -73,21 +74,37 @@ loop-command-preserved g c =
           c.loop-command.invariant.reached;
       ready = c.in-Ok.ensures.ready;
       number = ap (λ n. n + 1) c.loop-command.invariant.number;
-      telling = c.run_command.ensures.telling ∙ c.loop-command.invariant.telling;
-      rest = record {
-        label = c.run_command.ensures.rest.label ∙ c.loop-command.invariant.rest.label;
-        called = c.run_command.ensures.rest.called ∙ c.loop-command.invariant.rest.called;
-        opened = c.run_command.ensures.rest.opened ∙ c.loop-command.invariant.rest.opened;
-        other = c.run_command.ensures.rest.other ∙ c.loop-command.invariant.rest.other;
+      printed = gave_more (g.K.Sink.written c.args.out.now) (g.K.Sink.written c.loop-command.out) (g.K.Sink.written c.run_command.new.out)
+          c.loop-command.command-index (c.loop-command.number + 1) c.in-Ok.verdict (ap (λ n. n + 1) c.loop-command.invariant.number) c.in-Ok.ensures.line
+          c.loop-command.invariant.printed;
+      writes = record {
+        telling = c.run_command.ensures.writes.telling ∙ c.loop-command.invariant.writes.telling;
+        label = c.run_command.ensures.writes.label ∙ c.loop-command.invariant.writes.label;
+        called = c.run_command.ensures.writes.called ∙ c.loop-command.invariant.writes.called;
+        later = omega (arith, c.loop-command.invariant.writes.later, c.run_command.ensures.writes.later);
+        reads_stay = c.run_command.ensures.writes.reads_stay ∙ c.loop-command.invariant.writes.reads_stay;
       };
-      writes = omega (arith, c.loop-command.invariant.writes, c.run_command.ensures.writes);
       sink = omega (arith, c.loop-command.invariant.sink, c.run_command.ensures.sink);
     }
 
 pub returns-clause-ran : goal.returns-clause-ran
 returns-clause-ran g c =
     of_form (g.D.Disk.files c.args.disk.now) (g.K.Sink.written c.args.out.now) c.args.form _
-    (λ image given. RanEach image c.args.commands.now given (g.D.Disk.files c.loop-command.disk) (g.K.Sink.written c.loop-command.out) c.loop-command.all_done)
+    (λ image given. RanEach first_rules image c.args.commands.now given (g.D.Disk.files c.loop-command.disk) (g.K.Sink.written c.loop-command.out) c.loop-command.all_done)
     (λ image given. reached_all image c.args.commands.now given c.loop-command.command-index c.loop-command.form (g.D.Disk.files c.loop-command.disk)
     (g.K.Sink.written c.loop-command.out) c.loop-command.all_done (omega arith))
     c.loop-command.invariant.reached
+
+pub returns-clause-printed : goal.returns-clause-printed
+returns-clause-printed g c =
+    gave_all (Rose (g.K.Sink.faults c.args.out.now) (g.K.Sink.faults c.loop-command.out)) (g.K.Sink.written c.args.out.now) (g.K.Sink.written c.loop-command.out)
+    c.loop-command.command-index c.loop-command.all_done c.loop-command.invariant.printed
+
+pub returns-in-Err-clause-printed : goal.returns-in-Err-clause-printed
+returns-in-Err-clause-printed g c =
+    gave_stop (Rose (g.D.Disk.write_faults c.loop-command.disk) (g.D.Disk.write_faults c.run_command.new.disk))
+    (Rose (g.K.Sink.faults c.loop-command.out) (g.K.Sink.faults c.run_command.new.out)) (Rose (g.K.Sink.faults c.args.out.now) (g.K.Sink.faults c.run_command.new.out))
+    c.loop-command.form c.loop-command.command-index (c.loop-command.number + 1) c.command-item.result
+    (g.D.Disk.files c.loop-command.disk) (g.D.Disk.files c.run_command.new.disk) (g.K.Sink.written c.args.out.now) (g.K.Sink.written c.loop-command.out)
+    (g.K.Sink.written c.run_command.new.out) c.in-Err.stop (λ r. omega (arith, c.loop-command.invariant.sink, r))
+    (ap (λ n. n + 1) c.loop-command.invariant.number) c.in-Err.ensures.stop c.loop-command.invariant.printed

@@ -1,7 +1,9 @@
-use Rattle.std.proofs.Common.{◌≡◌, ◌≤◌, is_some, take}
-use Rattle.alter_disk.specs.Rest.{KeepsRest}
-use Rattle.alter_cli.specs.Ending.{OfForm}
+use Rattle.std.proofs.Common.{◌≡◌, ◌≤◌, take}
+use Rattle.alter_disk.specs.Uses.{OnlyWrites}
+use Rattle.alter_cli.specs.Carried.{OfForm}
+use Rattle.alter_cli.specs.Ending.{WhereSinkTells}
 use Rattle.alter_cli.specs.Served.{IsReady}
+use Rattle.alter_cli.proofs.Printed.{GaveSo}
 use Rattle.alter_cli.proofs.Reached.{Reached}
 use Rattle.alter_cli.proofs.run.run_commands.Given as goal
 
@@ -12,8 +14,7 @@ invariant-loop-command g l = record {
       (λ image given. Reached image (take l.command-index l.commands) given (g.D.Disk.files l.disk) (g.K.Sink.written l.out) l.form l.all_done);
   ready : IsReady l.form;
   number : l.number ≡ l.command-index;
-  telling : is_some (g.D.Disk.files l.disk) ≡ is_some (g.D.Disk.files l.fn.disk);
-  rest : KeepsRest g.D.Disk.label g.D.Disk.called g.D.Disk.opened g.D.Disk.read_faults l.fn.disk l.disk;
-  writes : g.D.Disk.write_faults l.fn.disk ≤ g.D.Disk.write_faults l.disk;
+  printed : WhereSinkTells (g.K.Sink.written l.fn.out) (g.K.Sink.written l.out) (GaveSo l.command-index);
+  writes : OnlyWrites g.D.Disk l.fn.disk l.disk;
   sink : g.K.Sink.faults l.fn.out ≤ g.K.Sink.faults l.out;
 }

@@ -1,6 +1,6 @@
 use Rattle.std.proofs.Common.{ap, length, arith}
 use Rattle.alter_cli.proofs.RunLemmas.{small_columns}
-use Rattle.alter_cli.proofs.run.read_commands.Goals as goal
+use Rattle.alter_cli.proofs.script_text.read_commands.Goals as goal
 
 pub returns-in-Some-clause-small : goal.returns-in-Some-clause-small
 returns-in-Some-clause-small g c =

@@ -2,7 +2,7 @@ use Rattle.std.proofs.Common.{None, subst}
 use Rattle.alter_disk.specs.Changes.{IfTold}
 use Rattle.alter_cli.specs.Served.{OnlyFirstPage}
 use Rattle.alter_cli.proofs.OpensLemmas.{found_told, unserved_first, unserved_told}
-use Rattle.alter_cli.proofs.run.open_form.Goals as goal
+use Rattle.alter_cli.proofs.opening.open_form.Goals as goal
 
 pub returns-in_default-clause-stop : goal.returns-in_default-clause-stop
 returns-in_default-clause-stop g c =

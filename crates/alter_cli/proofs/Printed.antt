@@ -1,0 +1,206 @@
+-- What a sink was given, by the sink and the counts alone.
+use Rattle.std.proofs.Common.{◌≡◌, ℕ, ◌+◌, Bool, true, false, inl, inr, Option, Some, None, option_map, Ok, Err, IsSomeAnd, List, [], ◌∷◌, ◌++◌, length, refl, sym, ◌∙◌, ap, subst, arith, append-nil, append_assoc, length-append}
+use Rattle.std.proofs.lemmas.Option.{same_Some}
+use Rattle.alter_disk.specs.Files.{Files}
+use Rattle.alter_disk.specs.Changes.{IfTold}
+use Rattle.alter_disk.specs.Outside.{Rises}
+use Rattle.alter_cli.specs.declared.stop.Stop.{Stop}
+use Rattle.alter_cli.specs.declared.stop.Stop.TheVariants.{Misused, TooLong, Unspelled, Unread, Unserved, Unreadable, Unwritten, Unprinted, Memory}
+use Rattle.alter_cli.specs.declared.status.Status.{Status}
+use Rattle.alter_cli.specs.declared.status.Status.TheVariants as statuses
+use Rattle.alter_cli.specs.declared.verdict.Verdict.{Verdict}
+use Rattle.alter_cli.specs.Causes.{run_status}
+use Rattle.alter_cli.specs.Ending.{WhereSinkTells}
+use Rattle.alter_cli.specs.Given.{WroteFront}
+use Rattle.alter_cli.specs.Lines.{verdict_line, verdict_lines}
+use Rattle.alter_cli.specs.Outcome.{IsLastLine, Printed}
+use Rattle.alter_cli.specs.Rules.{Rules}
+use Rattle.alter_cli.specs.Stops.{GaveLines, IsCaused, IsLast, NoForm, NoScript, stop_line, stop_status}
+use Rattle.alter_cli.proofs.FinishLemmas.{last_told, unprinted_end}
+use Rattle.alter_cli.proofs.Grown.{verdict_lines-one, verdict_lines-push}
+
+-- the sink was given the lines of so many verdicts
+abbrev pub GaveSo : ℕ → List ℕ → List ℕ → Type 0
+GaveSo count given now = (verdicts : List Verdict) × (length verdicts ≡ count) × (now ≡ given ++ verdict_lines 1 verdicts)
+
+-- before the first line
+pub gave_none : (had : Option (List ℕ)) → WhereSinkTells had had (GaveSo 0)
+gave_none None = tt
+gave_none (Some w) = ([], refl, sym (append-nil w))
+
+-- the number of the next line
+numbered : (count number many : ℕ) → number ≡ count + 1 → many ≡ count → number ≡ 1 + many
+numbered count number many at is = omega arith
+
+-- one line more
+pub gave_more : (given had now : Option (List ℕ)) (count number : ℕ) (verdict : Verdict) → number ≡ count + 1
+    → now ≡ option_map (λ w. w ++ verdict_line number verdict) had → WhereSinkTells given had (GaveSo count)
+    → WhereSinkTells given now (GaveSo (count + 1))
+gave_more None had now count number verdict at printed is = tt
+gave_more (Some g) None now count number verdict at printed is = absurd is
+gave_more (Some g) (Some h) now count number verdict at printed is =
+    let many = length-append is.0 (verdict ∷ []) in
+    let line = verdict_line number verdict in
+    subst (λ n. IsSomeAnd n (GaveSo (count + 1) g)) (sym printed) (
+      is.0 ++ verdict ∷ [],
+      many ∙ ap (λ (n : ℕ). n + 1) is.1,
+      ap (λ (w : List ℕ). w ++ line) is.2 ∙ append_assoc g (verdict_lines 1 is.0) line
+          ∙ ap (λ (l : List ℕ). g ++ l)
+          (ap (λ n. verdict_lines 1 is.0 ++ verdict_line n verdict) (numbered count number (length is.0) at is.1) ∙ sym (verdict_lines-push 1 is.0 verdict)),
+    )
+
+-- all lines
+pub gave_all : (Sunk : Type 0) (given now : Option (List ℕ)) (count : ℕ) (all_done : Bool) → WhereSinkTells given now (GaveSo count)
+    → WhereSinkTells given now (λ g n. GaveLines Sunk g n (Ok all_done))
+gave_all Sunk None now count all_done is = tt
+gave_all Sunk (Some g) None count all_done is = absurd is
+gave_all Sunk (Some g) (Some n) count all_done is = (is.0, is.2)
+
+-- nothing more was given
+same_lines : (given had now : Option (List ℕ)) (count : ℕ) → now ≡ had → WhereSinkTells given had (GaveSo count)
+    → WhereSinkTells given now (λ g n. (verdicts : List Verdict) × (n ≡ g ++ verdict_lines 1 verdicts))
+same_lines None had now count same is = tt
+same_lines (Some g) None now count same is = absurd is
+same_lines (Some g) (Some h) now count same is =
+    subst (λ n. IsSomeAnd n (λ n. (verdicts : List Verdict) × (n ≡ g ++ verdict_lines 1 verdicts))) (sym same) (is.0, is.2)
+
+-- the run of the commands ran out of memory
+pub gave_memory : (Sunk : Type 0) (given had now : Option (List ℕ)) (count : ℕ) → now ≡ had → WhereSinkTells given had (GaveSo count)
+    → WhereSinkTells given now (λ g n. GaveLines Sunk g n (Err Memory))
+gave_memory Sunk given had now count same is = same_lines given had now count same is
+
+-- a write of the run of the commands failed
+pub gave_unwritten : (Sunk : Type 0) (given had now : Option (List ℕ)) (count : ℕ) → now ≡ had → WhereSinkTells given had (GaveSo count)
+    → WhereSinkTells given now (λ g n. GaveLines Sunk g n (Err Unwritten))
+gave_unwritten Sunk given had now count same is = same_lines given had now count same is
+
+-- a front of the next line was given
+pub gave_front : (Sunk : Type 0) (given had now : Option (List ℕ)) (count number : ℕ) (verdict : Verdict) → Sunk → number ≡ count + 1
+    → IfTold had (λ w. WroteFront w (verdict_line number verdict) now) → WhereSinkTells given had (GaveSo count)
+    → WhereSinkTells given now (λ g n. GaveLines Sunk g n (Err Unprinted))
+gave_front Sunk None had now count number verdict sunk at front is = tt
+gave_front Sunk (Some g) None now count number verdict sunk at front is = absurd is
+gave_front Sunk (Some g) (Some h) now count number verdict sunk at front is =
+    subst (λ n. IsSomeAnd n (λ n. GaveLines Sunk g n (Err Unprinted))) (sym front.written) (
+      sunk,
+      (
+        is.0,
+        verdict,
+        record {
+          front = front.front;
+          rest = front.rest;
+          written = ap (λ (w : List ℕ). Some (w ++ front.front)) is.2;
+          whole = subst (λ n. verdict_line n verdict ≡ front.front ++ front.rest) (numbered count number (length is.0) at is.1) front.whole;
+        },
+      ),
+    )
+
+-- a call that ran its commands has given their lines
+pub printed_ok : (rose : Rises) (Part : Type 0) (given now : Option (List ℕ)) (all_done : Bool)
+    → WhereSinkTells given now (λ g n. GaveLines Part g n (Ok all_done)) → WhereSinkTells given now (λ g n. Printed rose g n (run_status all_done))
+printed_ok rose Part None now all_done is = tt
+printed_ok rose Part (Some g) None all_done is = absurd is
+printed_ok rose Part (Some g) (Some n) all_done is = record {
+  planned = run_status all_done;
+  verdicts = is.0;
+  last = [];
+  line = none rose all_done;
+  told = inl (refl, is.1 ∙ sym (append-nil (g ++ verdict_lines 1 is.0)));
+}
+  where
+    none : (rose : Rises) (b : Bool) → IsLastLine rose (run_status b) []
+    none rose true = refl
+    none rose false = refl
+
+-- a call that names no file has given its line
+pub printed_misused : (rose : Rises) (given now : Option (List ℕ)) (status : Status) → IfTold given (λ w. IsSomeAnd now (IsLast rose.sink Misused status w))
+    → WhereSinkTells given now (λ g n. Printed rose g n status)
+printed_misused rose None now status is = tt
+printed_misused rose (Some g) None status is = absurd is
+printed_misused rose (Some g) (Some n) status is = record {
+  planned = statuses.Usage;
+  verdicts = [];
+  last = stop_line Misused;
+  line = refl;
+  told = last_told rose rose.sink Misused status [] g g n (λ x. x) (sym (append-nil g)) is;
+}
+
+module _ {Image Command : Type 0} (rules : Rules Image Command) where
+  -- there was no script, and nothing was given
+  pub gave_no_script : (Sunk Faulted : Type 0) (text left : Option (List ℕ)) (had : Option (List ℕ)) (stop : Stop) → NoScript rules Faulted text left stop
+      → WhereSinkTells had had (λ g n. GaveLines Sunk g n (Err stop))
+  gave_no_script Sunk Faulted text left None stop why = tt
+  gave_no_script Sunk Faulted text left (Some w) TooLong why = ([], sym (append-nil w))
+  gave_no_script Sunk Faulted text left (Some w) Unspelled why = ([], sym (append-nil w))
+  gave_no_script Sunk Faulted text left (Some w) Unread why = ([], sym (append-nil w))
+  gave_no_script Sunk Faulted text left (Some w) Memory why = ([], sym (append-nil w))
+  gave_no_script Sunk Faulted text left (Some w) stop why = absurd why
+
+  -- there was no form, and nothing was given
+  pub gave_no_form : (Sunk Faulted : Type 0) (files : Option Files) (had : Option (List ℕ)) (stop : Stop) → NoForm rules Faulted files stop
+      → WhereSinkTells had had (λ g n. GaveLines Sunk g n (Err stop))
+  gave_no_form Sunk Faulted files None stop why = tt
+  gave_no_form Sunk Faulted files (Some w) Unserved why = ([], sym (append-nil w))
+  gave_no_form Sunk Faulted files (Some w) Unreadable why = ([], sym (append-nil w))
+  gave_no_form Sunk Faulted files (Some w) Memory why = ([], sym (append-nil w))
+  gave_no_form Sunk Faulted files (Some w) stop why = absurd why
+
+  -- the line of a stop goes with its status and with the counts that rose
+  line_of : (rose : Rises) (First : Type 0) (text : Option (List ℕ)) (files : Option Files) (stop : Stop) → (First → rose.sink)
+      → IsCaused rules (record rose { sink = First }) text files stop → IsLastLine rose (stop_status stop) (stop_line stop)
+  line_of rose First text files TooLong first why = inl refl
+  line_of rose First text files Unspelled first why = inr refl
+  line_of rose First text files Unread first why = inl (inl why, refl)
+  line_of rose First text files Unserved first why = refl
+  line_of rose First text files Unreadable first why = inl (inr why.0, refl)
+  line_of rose First text files Unwritten first why = inr (inl (why.0, refl))
+  line_of rose First text files Unprinted first why = inr (inr (first why.0, refl))
+  line_of rose First text files Memory first why = refl
+  line_of rose First text files Misused first why = absurd why
+
+  -- a call that stopped has given the lines of its verdicts and its last line, where the sink tells
+  stop_printed : (rose : Rises) (First Part : Type 0) (text : Option (List ℕ)) (files : Option Files) (stop : Stop) (status : Status) (g m n : List ℕ)
+      → (First → rose.sink) → (Part → rose.sink) → IsCaused rules (record rose { sink = First }) text files stop → GaveLines First g m (Err stop)
+      → IsLast Part stop status m n → Printed rose g n status
+  stop_printed rose First Part text files Unprinted status g m n first later why is last =
+      let (verdicts, verdict, front) = is.1 in
+      let ended = unprinted_end Part status m n last in
+      record {
+        planned = statuses.Fault;
+        verdicts = verdicts ++ verdict ∷ [];
+        last = [];
+        line = inr (inr (first is.0, refl));
+        told = inr (
+          first is.0,
+          ended.0,
+          (
+            verdicts,
+            verdict ∷ [],
+            front.front,
+            front.rest,
+            refl,
+            omega arith,
+            inr refl,
+            ended.1 ∙ same_Some m (g ++ verdict_lines 1 verdicts ++ front.front) front.written,
+            append-nil (verdict_lines (1 + length verdicts) (verdict ∷ [])) ∙ verdict_lines-one (1 + length verdicts) verdict ∙ front.whole,
+          ),
+        );
+      }
+  stop_printed rose First Part text files stop status g m n first later why is last = record {
+    planned = stop_status stop;
+    verdicts = is.0;
+    last = stop_line stop;
+    line = line_of rose First text files stop first why;
+    told = last_told rose Part stop status is.0 g m n later is.1 last;
+  }
+
+  -- the same for what is told
+  pub printed_stop : (rose : Rises) (First Part : Type 0) (text : Option (List ℕ)) (files : Option Files) (stop : Stop) (status : Status)
+      (given mid now : Option (List ℕ)) → (First → rose.sink) → (Part → rose.sink) → IsCaused rules (record rose { sink = First }) text files stop
+      → WhereSinkTells given mid (λ g m. GaveLines First g m (Err stop)) → IfTold mid (λ m. IsSomeAnd now (IsLast Part stop status m))
+      → WhereSinkTells given now (λ g n. Printed rose g n status)
+  printed_stop rose First Part text files stop status None mid now first later why is last = tt
+  printed_stop rose First Part text files stop status (Some g) None now first later why is last = absurd is
+  printed_stop rose First Part text files stop status (Some g) (Some m) None first later why is last = absurd last
+  printed_stop rose First Part text files stop status (Some g) (Some m) (Some n) first later why is last =
+      stop_printed rose First Part text files stop status g m n first later why is last
