@@ -1,3 +1,8 @@
+pub mod Fronts
+pub mod Joined
+pub mod Leaves
+pub mod Made
 pub mod Maps
 pub mod Opened
+pub mod SmallTrees
 mod Steps

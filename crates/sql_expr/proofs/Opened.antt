@@ -2,7 +2,7 @@ use Rattle.std.specs.Prelude.{List, ◌++◌, ◌≡◌, Option}
 use mathlib.Core.Path.{refl, ap, sym, ◌∙◌}
 use Rattle.sql_token.specs.declared.token.Token.{Token}
 use Rattle.sql_expr.specs.Tokens.{after_tokens, alias_tokens, by_tokens, call_tokens, case_tokens, cast_tokens, column_use_tokens, commas_tokens, compound_tokens, flat, in_parens_tokens, indexing_tokens, infix_tokens, join_constraint_tokens, join_tokens, limit_tokens, literal_tokens, maybe, named_window_tokens, object_tokens, one, raise_tokens, result_item_tokens, term_tokens, values_row_tokens, with_tokens}
-use Rattle.sql_expr.specs.Tree.{same, in_set_level, in_set_step, in_set_tokens, operand_level, operand_step, operand_tokens, postfix_level, postfix_step, postfix_tokens, arm_level, arm_step, arm_tokens, table_source_level, table_source_step, table_source_tokens, expr_level, expr_step, expr_tokens, infix_part_level, infix_part_step, infix_part_tokens, part_level, part_step, part_tokens, compound_arm_level, compound_arm_step, compound_arm_tokens, select_level, select_step, select_tokens, select_arm_level, select_arm_step, select_arm_tokens, joined_source_level, joined_source_step, joined_source_tokens, sources_level, sources_step, sources_tokens}
+use Rattle.sql_expr.specs.Tree.{already, in_set_level, in_set_step, in_set_tokens, operand_level, operand_step, operand_tokens, postfix_level, postfix_step, postfix_tokens, arm_level, arm_step, arm_tokens, table_source_level, table_source_step, table_source_tokens, expr_level, expr_step, expr_tokens, infix_part_level, infix_part_step, infix_part_tokens, part_level, part_step, part_tokens, compound_arm_level, compound_arm_step, compound_arm_tokens, select_level, select_step, select_tokens, select_arm_level, select_arm_step, select_arm_tokens, joined_source_level, joined_source_step, joined_source_tokens, sources_level, sources_step, sources_tokens}
 use Rattle.sql_expr.proofs.Maps.{after-map, after_map, by-map, by_map, call-map, case-map, cast-map, commas-map, commas_map, flat-map, in_parens-map, join_constraint-map, join_constraint_map, limit-map, limit_map, maybe-map, named_window-map, named_window_map, option_map, raise-map, result_item-map, result_item_map, term-map, term_map, values_row-map, values_row_map, with-map, with_map}
 use Rattle.sql_expr.specs.declared.expr.InSet.{InSet, out-InSet, roll-InSet, out-roll-InSet}
 use Rattle.sql_expr.specs.declared.expr.InSet.TheVariants as InSet'
@@ -49,18 +49,18 @@ level_in_set :
     infix_part_tokens part_tokens compound_arm_tokens select_tokens select_arm_tokens
     joined_source_tokens sources_tokens x) ≡ in_set_level expr_tokens select_tokens x
 level_in_set (InSet-F.List part) =
-    λ i. in_parens-map (maybe (commas_tokens same)) (maybe (commas_tokens expr_tokens))
+    λ i. in_parens-map (maybe (commas_tokens already)) (maybe (commas_tokens expr_tokens))
     (option_map (commas_map expr_tokens))
-    (maybe-map (commas_tokens same) (commas_tokens expr_tokens) (commas_map expr_tokens)
-    (commas-map same expr_tokens expr_tokens ((λ y. refl)))) part i
-level_in_set (InSet-F.Query part) = λ i. in_parens-map same select_tokens select_tokens ((λ y. refl)) part i
+    (maybe-map (commas_tokens already) (commas_tokens expr_tokens) (commas_map expr_tokens)
+    (commas-map already expr_tokens expr_tokens ((λ y. refl)))) part i
+level_in_set (InSet-F.Query part) = λ i. in_parens-map already select_tokens select_tokens ((λ y. refl)) part i
 level_in_set (InSet-F.Object part) = refl
 level_in_set (InSet-F.Function name arguments) =
     λ i. one name
-    ++ in_parens-map (maybe (commas_tokens same)) (maybe (commas_tokens expr_tokens))
+    ++ in_parens-map (maybe (commas_tokens already)) (maybe (commas_tokens expr_tokens))
     (option_map (commas_map expr_tokens))
-    (maybe-map (commas_tokens same) (commas_tokens expr_tokens) (commas_map expr_tokens)
-    (commas-map same expr_tokens expr_tokens ((λ y. refl)))) arguments i
+    (maybe-map (commas_tokens already) (commas_tokens expr_tokens) (commas_map expr_tokens)
+    (commas-map already expr_tokens expr_tokens ((λ y. refl)))) arguments i
 
 -- an in set spells what its parts spell, in order
 pub opened_in_set : (x : InSet) → in_set_tokens x ≡ in_set_level expr_tokens select_tokens (out-InSet x)
@@ -103,15 +103,15 @@ level_operand :
     joined_source_tokens sources_tokens x) ≡ operand_level expr_tokens select_tokens x
 level_operand (Operand-F.Literal part) = refl
 level_operand (Operand-F.Column part) = refl
-level_operand (Operand-F.Call part) = λ i. call-map same expr_tokens expr_tokens ((λ y. refl)) part i
+level_operand (Operand-F.Call part) = λ i. call-map already expr_tokens expr_tokens ((λ y. refl)) part i
 level_operand (Operand-F.Exprs part) =
-    λ i. in_parens-map (commas_tokens same) (commas_tokens expr_tokens) (commas_map expr_tokens)
-    (commas-map same expr_tokens expr_tokens ((λ y. refl))) part i
+    λ i. in_parens-map (commas_tokens already) (commas_tokens expr_tokens) (commas_map expr_tokens)
+    (commas-map already expr_tokens expr_tokens ((λ y. refl))) part i
 level_operand (Operand-F.Subquery exists select) =
-    λ i. maybe one exists ++ in_parens-map same select_tokens select_tokens ((λ y. refl)) select i
-level_operand (Operand-F.Case part) = λ i. case-map same expr_tokens expr_tokens ((λ y. refl)) part i
-level_operand (Operand-F.Cast part) = λ i. cast-map same expr_tokens expr_tokens ((λ y. refl)) part i
-level_operand (Operand-F.Raise part) = λ i. raise-map same expr_tokens expr_tokens ((λ y. refl)) part i
+    λ i. maybe one exists ++ in_parens-map already select_tokens select_tokens ((λ y. refl)) select i
+level_operand (Operand-F.Case part) = λ i. case-map already expr_tokens expr_tokens ((λ y. refl)) part i
+level_operand (Operand-F.Cast part) = λ i. cast-map already expr_tokens expr_tokens ((λ y. refl)) part i
+level_operand (Operand-F.Raise part) = λ i. raise-map already expr_tokens expr_tokens ((λ y. refl)) part i
 
 -- an operand spells what its parts spell, in order
 pub opened_operand : (x : Operand) → operand_tokens x ≡ operand_level expr_tokens select_tokens (out-Operand x)
@@ -216,8 +216,8 @@ level_arm :
 level_arm (Arm-F.Select part) = refl
 level_arm (Arm-F.Values values rows) =
     λ i. one values
-    ++ commas-map (values_row_tokens same) (values_row_tokens expr_tokens) (values_row_map expr_tokens)
-    (values_row-map same expr_tokens expr_tokens ((λ y. refl))) rows i
+    ++ commas-map (values_row_tokens already) (values_row_tokens expr_tokens) (values_row_map expr_tokens)
+    (values_row-map already expr_tokens expr_tokens ((λ y. refl))) rows i
 
 -- an arm spells what its parts spell, in order
 pub opened_arm : (x : Arm) → arm_tokens x ≡ arm_level select_arm_tokens expr_tokens (out-Arm x)
@@ -252,14 +252,14 @@ level_table_source :
 level_table_source (TableSource-F.Table object alias indexing) = refl
 level_table_source (TableSource-F.TableFunction name arguments alias) =
     λ i. one name
-    ++ in_parens-map (maybe (commas_tokens same)) (maybe (commas_tokens expr_tokens))
+    ++ in_parens-map (maybe (commas_tokens already)) (maybe (commas_tokens expr_tokens))
     (option_map (commas_map expr_tokens))
-    (maybe-map (commas_tokens same) (commas_tokens expr_tokens) (commas_map expr_tokens)
-    (commas-map same expr_tokens expr_tokens ((λ y. refl)))) arguments i ++ maybe alias_tokens alias
+    (maybe-map (commas_tokens already) (commas_tokens expr_tokens) (commas_map expr_tokens)
+    (commas-map already expr_tokens expr_tokens ((λ y. refl)))) arguments i ++ maybe alias_tokens alias
 level_table_source (TableSource-F.Derived select alias) =
-    λ i. in_parens-map same select_tokens select_tokens ((λ y. refl)) select i ++ maybe alias_tokens alias
+    λ i. in_parens-map already select_tokens select_tokens ((λ y. refl)) select i ++ maybe alias_tokens alias
 level_table_source (TableSource-F.Sources part) =
-    λ i. in_parens-map same sources_tokens sources_tokens ((λ y. refl)) part i
+    λ i. in_parens-map already sources_tokens sources_tokens ((λ y. refl)) part i
 
 -- a table source spells what its parts spell, in order
 pub opened_table_source : (x : TableSource)
@@ -313,7 +313,7 @@ level_expr :
     in_set_tokens operand_tokens postfix_tokens arm_tokens table_source_tokens expr_tokens
     infix_part_tokens part_tokens compound_arm_tokens select_tokens select_arm_tokens
     joined_source_tokens sources_tokens x) ≡ expr_level part_tokens infix_part_tokens x
-level_expr x = λ i. part_tokens x.first ++ flat-map same infix_part_tokens infix_part_tokens ((λ y. refl)) x.more i
+level_expr x = λ i. part_tokens x.first ++ flat-map already infix_part_tokens infix_part_tokens ((λ y. refl)) x.more i
 
 -- an expr spells what its parts spell, in order
 pub opened_expr : (x : Expr) → expr_tokens x ≡ expr_level part_tokens infix_part_tokens (out-Expr x)
@@ -364,7 +364,7 @@ level_part :
     joined_source_tokens sources_tokens x) ≡ part_level operand_tokens postfix_tokens x
 level_part x =
     λ i. flat one x.prefixes ++ operand_tokens x.operand
-    ++ flat-map same postfix_tokens postfix_tokens ((λ y. refl)) x.postfixes i
+    ++ flat-map already postfix_tokens postfix_tokens ((λ y. refl)) x.postfixes i
 
 -- a part spells what its parts spell, in order
 pub opened_part : (x : Part) → part_tokens x ≡ part_level operand_tokens postfix_tokens (out-Part x)
@@ -415,14 +415,14 @@ level_select :
     infix_part_tokens part_tokens compound_arm_tokens select_tokens select_arm_tokens
     joined_source_tokens sources_tokens x) ≡ select_level select_tokens arm_tokens compound_arm_tokens expr_tokens x
 level_select x =
-    λ i. maybe-map (with_tokens same) (with_tokens select_tokens) (with_map select_tokens)
-    (with-map same select_tokens select_tokens ((λ y. refl))) x.with_clause i ++ arm_tokens x.arm
-    ++ flat-map same compound_arm_tokens compound_arm_tokens ((λ y. refl)) x.compounds i
-    ++ maybe-map (by_tokens (term_tokens same)) (by_tokens (term_tokens expr_tokens)) (by_map (term_map expr_tokens))
-    (by-map (term_tokens same) (term_tokens expr_tokens) (term_map expr_tokens)
-    (term-map same expr_tokens expr_tokens ((λ y. refl)))) x.order i
-    ++ maybe-map (limit_tokens same) (limit_tokens expr_tokens) (limit_map expr_tokens)
-    (limit-map same expr_tokens expr_tokens ((λ y. refl))) x.limit i
+    λ i. maybe-map (with_tokens already) (with_tokens select_tokens) (with_map select_tokens)
+    (with-map already select_tokens select_tokens ((λ y. refl))) x.with_clause i ++ arm_tokens x.arm
+    ++ flat-map already compound_arm_tokens compound_arm_tokens ((λ y. refl)) x.compounds i
+    ++ maybe-map (by_tokens (term_tokens already)) (by_tokens (term_tokens expr_tokens)) (by_map (term_map expr_tokens))
+    (by-map (term_tokens already) (term_tokens expr_tokens) (term_map expr_tokens)
+    (term-map already expr_tokens expr_tokens ((λ y. refl)))) x.order i
+    ++ maybe-map (limit_tokens already) (limit_tokens expr_tokens) (limit_map expr_tokens)
+    (limit-map already expr_tokens expr_tokens ((λ y. refl))) x.limit i
 
 -- a select spells what its parts spell, in order
 pub opened_select : (x : Select)
@@ -452,23 +452,23 @@ level_select_arm :
     joined_source_tokens sources_tokens x) ≡ select_arm_level expr_tokens sources_tokens x
 level_select_arm x =
     λ i. one x.select ++ maybe one x.quantifier
-    ++ commas-map (result_item_tokens same) (result_item_tokens expr_tokens) (result_item_map expr_tokens)
-    (result_item-map same expr_tokens expr_tokens ((λ y. refl))) x.items i
-    ++ maybe-map (after_tokens same) (after_tokens sources_tokens) (after_map sources_tokens)
-    (after-map same sources_tokens sources_tokens ((λ y. refl))) x.from i
-    ++ maybe-map (after_tokens same) (after_tokens expr_tokens) (after_map expr_tokens)
-    (after-map same expr_tokens expr_tokens ((λ y. refl))) x.filter i
-    ++ maybe-map (by_tokens same) (by_tokens expr_tokens) (by_map expr_tokens)
-    (by-map same expr_tokens expr_tokens ((λ y. refl))) x.group i
-    ++ maybe-map (after_tokens same) (after_tokens expr_tokens) (after_map expr_tokens)
-    (after-map same expr_tokens expr_tokens ((λ y. refl))) x.having i
-    ++ maybe-map (after_tokens (commas_tokens (named_window_tokens same)))
+    ++ commas-map (result_item_tokens already) (result_item_tokens expr_tokens) (result_item_map expr_tokens)
+    (result_item-map already expr_tokens expr_tokens ((λ y. refl))) x.items i
+    ++ maybe-map (after_tokens already) (after_tokens sources_tokens) (after_map sources_tokens)
+    (after-map already sources_tokens sources_tokens ((λ y. refl))) x.from i
+    ++ maybe-map (after_tokens already) (after_tokens expr_tokens) (after_map expr_tokens)
+    (after-map already expr_tokens expr_tokens ((λ y. refl))) x.filter i
+    ++ maybe-map (by_tokens already) (by_tokens expr_tokens) (by_map expr_tokens)
+    (by-map already expr_tokens expr_tokens ((λ y. refl))) x.group i
+    ++ maybe-map (after_tokens already) (after_tokens expr_tokens) (after_map expr_tokens)
+    (after-map already expr_tokens expr_tokens ((λ y. refl))) x.having i
+    ++ maybe-map (after_tokens (commas_tokens (named_window_tokens already)))
     (after_tokens (commas_tokens (named_window_tokens expr_tokens)))
     (after_map (commas_map (named_window_map expr_tokens)))
-    (after-map (commas_tokens (named_window_tokens same)) (commas_tokens (named_window_tokens expr_tokens))
+    (after-map (commas_tokens (named_window_tokens already)) (commas_tokens (named_window_tokens expr_tokens))
     (commas_map (named_window_map expr_tokens))
-    (commas-map (named_window_tokens same) (named_window_tokens expr_tokens) (named_window_map expr_tokens)
-    (named_window-map same expr_tokens expr_tokens ((λ y. refl))))) x.windows i
+    (commas-map (named_window_tokens already) (named_window_tokens expr_tokens) (named_window_map expr_tokens)
+    (named_window-map already expr_tokens expr_tokens ((λ y. refl))))) x.windows i
 
 -- a select arm spells what its parts spell, in order
 pub opened_select_arm : (x : SelectArm)
@@ -497,8 +497,8 @@ level_joined_source :
     joined_source_tokens sources_tokens x) ≡ joined_source_level table_source_tokens expr_tokens x
 level_joined_source x =
     λ i. join_tokens x.join ++ table_source_tokens x.source
-    ++ maybe-map (join_constraint_tokens same) (join_constraint_tokens expr_tokens) (join_constraint_map expr_tokens)
-    (join_constraint-map same expr_tokens expr_tokens ((λ y. refl))) x.constraint i
+    ++ maybe-map (join_constraint_tokens already) (join_constraint_tokens expr_tokens) (join_constraint_map expr_tokens)
+    (join_constraint-map already expr_tokens expr_tokens ((λ y. refl))) x.constraint i
 
 -- a joined source spells what its parts spell, in order
 pub opened_joined_source : (x : JoinedSource)
@@ -527,7 +527,7 @@ level_sources :
     infix_part_tokens part_tokens compound_arm_tokens select_tokens select_arm_tokens
     joined_source_tokens sources_tokens x) ≡ sources_level table_source_tokens joined_source_tokens x
 level_sources x =
-    λ i. table_source_tokens x.first ++ flat-map same joined_source_tokens joined_source_tokens ((λ y. refl)) x.more i
+    λ i. table_source_tokens x.first ++ flat-map already joined_source_tokens joined_source_tokens ((λ y. refl)) x.more i
 
 -- a sources spells what its parts spell, in order
 pub opened_sources : (x : Sources)

@@ -1,27 +1,29 @@
 -- What a leaf may hold: the kind of its token, and its bytes in the text.
-use Rattle.std.specs.Prelude.{◌≡◌, ℕ, List, [], ◌∷◌, All, Any, IsTrue, codes}
+use Rattle.std.specs.Prelude.{◌≡◌, ℕ, List, [], ◌∷◌, ◌⊎◌, IsTrue, codes}
+use Rattle.std.specs.List.{AllByRecursion}
 use Rattle.sql_token.specs.declared.token.Token.{Token}
 use Rattle.sql_token.specs.declared.token.TokenKind.{TokenKind}
 use Rattle.sql_token.specs.declared.token.TokenKind.TheVariants as Kind
 use Rattle.sql_token.specs.declared.keyword.Keyword.{Keyword}
 use Rattle.sql_token.specs.declared.keyword.Keyword.TheVariants as K
-use Rattle.sql_token.specs.Keyword.{is_reserved, is_join_word}
-use Rattle.sql_token.specs.Names.{folded, IsNameKind}
+use Rattle.sql_token.specs.Keyword.{is_join_word}
+use Rattle.sql_token.specs.Names.{folded}
 use Rattle.sql_token.specs.Token.{span}
-use Rattle.sql_token.specs.Fixed.{IsFixed, IsSign}
+use Rattle.sql_token.specs.Fixed.{IsFixed, IsSign, IsName}
 use Rattle.sql_expr.specs.declared.lists.TokenPair.{TokenPair}
 
 -- a Word that spells these letters, in either case: a fixed word that is no keyword
-abbrev pub IsWord : List ℕ → List ℕ → Token → Type 0
-IsWord text letters t = (t.kind ≡ Kind.Word) × (folded (span text t) ≡ letters)
+abbrev pub IsSpelledWord : List ℕ → List ℕ → Token → Type 0
+IsSpelledWord text letters t = (t.kind ≡ Kind.Word) × (folded (span text t) ≡ letters)
 
 -- one of the fixed words
 abbrev pub IsOneOf : List ℕ → List Keyword → Token → Type 0
-IsOneOf text keywords t = Any (λ keyword. IsFixed text keyword t) keywords
+IsOneOf text [] t = ⊥
+IsOneOf text (keyword ∷ more) t = IsFixed text keyword t ⊎ IsOneOf text more t
 
 -- none of the fixed words
 abbrev pub IsNoneOf : List ℕ → List Keyword → Token → Type 0
-IsNoneOf text keywords t = All (λ keyword. IsFixed text keyword t → ⊥) keywords
+IsNoneOf text keywords t = AllByRecursion (λ keyword. IsFixed text keyword t → ⊥) keywords
 
 -- two fixed words in a row
 abbrev pub AreFixed : List ℕ → Keyword → Keyword → TokenPair → Type 0
@@ -31,7 +33,7 @@ AreFixed text first second pair = IsFixed text first pair.first × IsFixed text 
 abbrev pub IsOperatorSign : List ℕ → Token → Type 0
 IsOperatorSign text t =
     (t.kind ≡ Kind.Op)
-    × All (λ sign. IsSign text sign t → ⊥) (codes "(" ∷ codes ")" ∷ codes "," ∷ codes ";" ∷ codes "." ∷ [])
+    × AllByRecursion (λ sign. IsSign text sign t → ⊥) (codes "(" ∷ codes ")" ∷ codes "," ∷ codes ";" ∷ codes "." ∷ [])
 
 -- a number: an Int, a Hex or a Float
 abbrev pub IsNumberKind : TokenKind → Type 0
@@ -39,10 +41,6 @@ IsNumberKind Kind.Int = Unit {0}
 IsNumberKind Kind.Hex = Unit {0}
 IsNumberKind Kind.Float = Unit {0}
 IsNumberKind _ = ⊥
-
--- a name: a Word that is not reserved, a Quoted or a Str
-abbrev pub IsName : List ℕ → Token → Type 0
-IsName text t = IsNameKind t.kind × ((keyword : Keyword) → IsTrue (is_reserved keyword) → IsFixed text keyword t → ⊥)
 
 -- no word that may begin a join
 abbrev pub IsNoJoinWord : List ℕ → Token → Type 0

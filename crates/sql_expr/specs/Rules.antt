@@ -1,13 +1,15 @@
--- What a tree of each rule may hold. `nested` says it of the trees inside.
-use Rattle.std.specs.Prelude.{◌≡◌, ◌⊎◌, ℕ, zero, suc, List, [], ◌∷◌, Option, None, All, IfSome, IfNone, codes}
+-- What a tree of each rule may hold. `inside` says what the trees inside it are asked.
+use Rattle.std.specs.Prelude.{◌≡◌, ◌⊎◌, ℕ, zero, suc, List, [], ◌∷◌, Option, None, IfSome, IfNone, codes}
+use Rattle.std.specs.List.{AllByRecursion}
 use Rattle.sql_token.specs.declared.token.Token.{Token}
 use Rattle.sql_token.specs.declared.token.TokenKind.TheVariants as Kind
 use Rattle.sql_token.specs.declared.keyword.Keyword.{Keyword}
 use Rattle.sql_token.specs.declared.keyword.Keyword.TheVariants as K
-use Rattle.sql_token.specs.Fixed.{IsFixed, IsSign}
-use Rattle.sql_expr.specs.Leaf.{IsOneOf, IsNoneOf, AreFixed, IsOperatorSign, IsNumberKind, IsName, IsBareAlias, IsTypeName, IsFreeOfGenerated, IsOperandName, IsColumnName, BeginsWithout}
+use Rattle.sql_token.specs.Fixed.{IsFixed, IsSign, IsName}
+use Rattle.sql_expr.specs.Leaf.{IsOneOf, IsNoneOf, AreFixed, IsOperatorSign, IsNumberKind, IsBareAlias, IsTypeName, IsFreeOfGenerated, IsOperandName, IsColumnName, BeginsWithout}
 use Rattle.sql_expr.specs.Tokens.{commas_tokens}
 use Rattle.sql_expr.specs.Tree.{expr_tokens, part_tokens, select_tokens, sources_tokens}
+use Rattle.sql_expr.specs.Levels.{OpenInSet, OpenOperand, OpenPostfix, OpenArm, OpenTableSource, OpenSelectArm}
 use Rattle.sql_expr.specs.declared.lists.After.{After}
 use Rattle.sql_expr.specs.declared.lists.InParens.{InParens}
 use Rattle.sql_expr.specs.declared.lists.Commas.{Commas}
@@ -78,42 +80,8 @@ use Rattle.sql_expr.specs.declared.select.CompoundArm.{CompoundArm, out-Compound
 use Rattle.sql_expr.specs.declared.select.Select.{Select, out-Select}
 use Rattle.sql_expr.specs.declared.expr.InSet.TheOpen.{InSet-F, Operand-F, Postfix-F, Arm-F, TableSource-F, SelectArm-F}
 
--- an in set, one level opened
-abbrev pub OpenInSet : Type 0
-OpenInSet =
-    InSet-F InSet Operand Postfix Arm TableSource Expr InfixPart Part CompoundArm Select SelectArm JoinedSource Sources
-
--- an operand, one level opened
-abbrev pub OpenOperand : Type 0
-OpenOperand =
-    Operand-F InSet Operand Postfix Arm TableSource Expr InfixPart Part CompoundArm Select SelectArm JoinedSource
-    Sources
-
--- a postfix, one level opened
-abbrev pub OpenPostfix : Type 0
-OpenPostfix =
-    Postfix-F InSet Operand Postfix Arm TableSource Expr InfixPart Part CompoundArm Select SelectArm JoinedSource
-    Sources
-
--- an arm, one level opened
-abbrev pub OpenArm : Type 0
-OpenArm =
-    Arm-F InSet Operand Postfix Arm TableSource Expr InfixPart Part CompoundArm Select SelectArm JoinedSource Sources
-
--- a table source, one level opened
-abbrev pub OpenTableSource : Type 0
-OpenTableSource =
-    TableSource-F InSet Operand Postfix Arm TableSource Expr InfixPart Part CompoundArm Select SelectArm JoinedSource
-    Sources
-
--- a select arm, one level opened
-abbrev pub OpenSelectArm : Type 0
-OpenSelectArm =
-    SelectArm-F InSet Operand Postfix Arm TableSource Expr InfixPart Part CompoundArm Select SelectArm JoinedSource
-    Sources
-
 -- What is asked of the trees that stand inside a tree, and of a column's name that stands alone.
-pub record Nested : Type 1 where
+pub record Inside : Type 1 where
   pub column : Token → Type 0
   pub expr : Expr → Type 0
   pub select : Select → Type 0
@@ -125,7 +93,7 @@ IsInParens text P x = IsSign text (codes "(") x.opening × P x.inner × IsSign t
 
 -- item {"," item}
 abbrev pub AreCommas : {A : Type 0} → List ℕ → (A → Type 0) → Commas A → Type 0
-AreCommas text P x = P x.first × All (λ next. IsSign text (codes ",") next.comma × P next.item) x.more
+AreCommas text P x = P x.first × AllByRecursion (λ next. IsSign text (codes ",") next.comma × P next.item) x.more
 
 -- WORD part
 abbrev pub IsAfter : {A : Type 0} → List ℕ → Keyword → (A → Type 0) → After A → Type 0
@@ -149,11 +117,11 @@ abbrev pub IsAlias : List ℕ → Alias → Type 0
 IsAlias text x = IfSome x.as_word (IsFixed text K.As) × IsName text x.name × IfNone x.as_word (IsBareAlias text x.name)
 
 -- name | name "." name | name "." name "." name
-abbrev pub IsColumnUse : List ℕ → Nested → ColumnUse → Type 0
-IsColumnUse text nested (ColumnUse'.One name) = nested.column name
-IsColumnUse text nested (ColumnUse'.Two table dot column) =
+abbrev pub IsColumnUse : List ℕ → Inside → ColumnUse → Type 0
+IsColumnUse text inside (ColumnUse'.One name) = inside.column name
+IsColumnUse text inside (ColumnUse'.Two table dot column) =
     IsOperandName text table × IsSign text (codes ".") dot × IsName text column
-IsColumnUse text nested (ColumnUse'.Three schema first_dot table second_dot column) =
+IsColumnUse text inside (ColumnUse'.Three schema first_dot table second_dot column) =
     IsOperandName text schema × IsSign text (codes ".") first_dot × IsName text table × IsSign text (codes ".") second_dot
     × IsName text column
 
@@ -169,7 +137,7 @@ IsTypeSize text x =
 -- type-name {type-name} ["(" signed ["," signed] ")"]
 abbrev pub IsColumnType : List ℕ → ColumnType → Type 0
 IsColumnType text x =
-    IsTypeName text x.first × All (IsTypeName text) x.more × IfSome x.size (IsInParens text (IsTypeSize text))
+    IsTypeName text x.first × AllByRecursion (IsTypeName text) x.more × IfSome x.size (IsInParens text (IsTypeSize text))
     × IsFreeOfGenerated text (x.first ∷ x.more)
 
 -- number | string | blob | NULL | CURRENT_DATE | CURRENT_TIME | CURRENT_TIMESTAMP
@@ -206,25 +174,25 @@ LeavesNot text (Infix'.Is is None None) tokens = BeginsWithout text (K.Not ∷ [
 LeavesNot text _ tokens = Unit {0}
 
 -- expr [ASC|DESC] [NULLS (FIRST|LAST)]
-abbrev pub IsTerm : List ℕ → Nested → Term Expr → Type 0
-IsTerm text nested x =
-    nested.expr x.expr × IfSome x.direction (IsOneOf text (K.Asc ∷ K.Desc ∷ []))
+abbrev pub IsTerm : List ℕ → Inside → Term Expr → Type 0
+IsTerm text inside x =
+    inside.expr x.expr × IfSome x.direction (IsOneOf text (K.Asc ∷ K.Desc ∷ []))
     × IfSome x.nulls (λ pair. IsFixed text K.Nulls pair.first × IsOneOf text (K.First ∷ K.Last ∷ []) pair.second)
 
 -- UNBOUNDED (PRECEDING|FOLLOWING) | CURRENT ROW | expr (PRECEDING|FOLLOWING)
-abbrev pub IsBound : List ℕ → Nested → Bound Expr → Type 0
-IsBound text nested (Bound'.Unbounded unbounded way) =
+abbrev pub IsBound : List ℕ → Inside → Bound Expr → Type 0
+IsBound text inside (Bound'.Unbounded unbounded way) =
     IsFixed text K.Unbounded unbounded × IsOneOf text (K.Preceding ∷ K.Following ∷ []) way
-IsBound text nested (Bound'.CurrentRow current row) = IsFixed text K.Current current × IsFixed text K.Row row
-IsBound text nested (Bound'.Expr expr way) =
-    nested.expr expr × BeginsWithout text (K.Unbounded ∷ K.Current ∷ []) (expr_tokens expr)
+IsBound text inside (Bound'.CurrentRow current row) = IsFixed text K.Current current × IsFixed text K.Row row
+IsBound text inside (Bound'.Expr expr way) =
+    inside.expr expr × BeginsWithout text (K.Unbounded ∷ K.Current ∷ []) (expr_tokens expr)
     × IsOneOf text (K.Preceding ∷ K.Following ∷ []) way
 
 -- bound | BETWEEN bound AND bound
-abbrev pub IsFrameExtent : List ℕ → Nested → FrameExtent Expr → Type 0
-IsFrameExtent text nested (FrameExtent'.From bound) = IsBound text nested bound
-IsFrameExtent text nested (FrameExtent'.Between between start and end) =
-    IsFixed text K.Between between × IsBound text nested start × IsFixed text K.And and × IsBound text nested end
+abbrev pub IsFrameExtent : List ℕ → Inside → FrameExtent Expr → Type 0
+IsFrameExtent text inside (FrameExtent'.From bound) = IsBound text inside bound
+IsFrameExtent text inside (FrameExtent'.Between between start and end) =
+    IsFixed text K.Between between × IsBound text inside start × IsFixed text K.And and × IsBound text inside end
 
 -- NO OTHERS | CURRENT ROW | GROUP | TIES
 abbrev pub IsExcluded : List ℕ → Excluded → Type 0
@@ -234,105 +202,105 @@ IsExcluded text (Excluded'.Group t) = IsFixed text K.Group t
 IsExcluded text (Excluded'.Ties t) = IsFixed text K.Ties t
 
 -- (RANGE|ROWS|GROUPS) extent [EXCLUDE excluded]
-abbrev pub IsFrame : List ℕ → Nested → Frame Expr → Type 0
-IsFrame text nested x =
-    IsOneOf text (K.Range ∷ K.Rows ∷ K.Groups ∷ []) x.unit × IsFrameExtent text nested x.extent
+abbrev pub IsFrame : List ℕ → Inside → Frame Expr → Type 0
+IsFrame text inside x =
+    IsOneOf text (K.Range ∷ K.Rows ∷ K.Groups ∷ []) x.unit × IsFrameExtent text inside x.extent
     × IfSome x.exclude (IsAfter text K.Exclude (IsExcluded text))
 
 -- "(" [name] [PARTITION BY exprs] [ORDER BY terms] [frame] ")"
-abbrev pub IsWindow : List ℕ → Nested → Window Expr → Type 0
-IsWindow text nested x =
+abbrev pub IsWindow : List ℕ → Inside → Window Expr → Type 0
+IsWindow text inside x =
     IsSign text (codes "(") x.opening
     × IfSome x.base (λ t. IsName text t × IsNoneOf text (K.Partition ∷ K.Range ∷ K.Rows ∷ K.Groups ∷ []) t)
-    × IfSome x.partition (IsBy text K.Partition nested.expr) × IfSome x.order (IsBy text K.Order (IsTerm text nested))
-    × IfSome x.frame (IsFrame text nested) × IsSign text (codes ")") x.closing
+    × IfSome x.partition (IsBy text K.Partition inside.expr) × IfSome x.order (IsBy text K.Order (IsTerm text inside))
+    × IfSome x.frame (IsFrame text inside) × IsSign text (codes ")") x.closing
 
 -- name AS window
-abbrev pub IsNamedWindow : List ℕ → Nested → NamedWindow Expr → Type 0
-IsNamedWindow text nested x = IsName text x.name × IsFixed text K.As x.as_word × IsWindow text nested x.window
+abbrev pub IsNamedWindow : List ℕ → Inside → NamedWindow Expr → Type 0
+IsNamedWindow text inside x = IsName text x.name × IsFixed text K.As x.as_word × IsWindow text inside x.window
 
 -- "*" | [DISTINCT] exprs [ORDER BY terms]
-abbrev pub IsCallArguments : List ℕ → Nested → CallArguments Expr → Type 0
-IsCallArguments text nested (CallArguments'.Star t) = IsSign text (codes "*") t
-IsCallArguments text nested (CallArguments'.Exprs distinct exprs order) =
-    IfSome distinct (IsFixed text K.Distinct) × AreCommas text nested.expr exprs
-    × IfSome order (IsBy text K.Order (IsTerm text nested))
+abbrev pub IsCallArguments : List ℕ → Inside → CallArguments Expr → Type 0
+IsCallArguments text inside (CallArguments'.Star t) = IsSign text (codes "*") t
+IsCallArguments text inside (CallArguments'.Exprs distinct exprs order) =
+    IfSome distinct (IsFixed text K.Distinct) × AreCommas text inside.expr exprs
+    × IfSome order (IsBy text K.Order (IsTerm text inside))
 
 -- OVER (name | window)
-abbrev pub IsOver : List ℕ → Nested → Over Expr → Type 0
-IsOver text nested (Over'.Name over name) = IsFixed text K.Over over × IsName text name
-IsOver text nested (Over'.Window over window) = IsFixed text K.Over over × IsWindow text nested window
+abbrev pub IsOver : List ℕ → Inside → Over Expr → Type 0
+IsOver text inside (Over'.Name over name) = IsFixed text K.Over over × IsName text name
+IsOver text inside (Over'.Window over window) = IsFixed text K.Over over × IsWindow text inside window
 
 -- name "(" [arguments] ")" [FILTER "(" WHERE expr ")"] [OVER (name | window)]
-abbrev pub IsCall : List ℕ → Nested → Call Expr → Type 0
-IsCall text nested x =
-    IsOperandName text x.name × IsInParens text (λ inner. IfSome inner (IsCallArguments text nested)) x.arguments
-    × IfSome x.filter (IsAfter text K.Filter (IsInParens text (IsAfter text K.Where nested.expr)))
-    × IfSome x.over (IsOver text nested)
+abbrev pub IsCall : List ℕ → Inside → Call Expr → Type 0
+IsCall text inside x =
+    IsOperandName text x.name × IsInParens text (λ inner. IfSome inner (IsCallArguments text inside)) x.arguments
+    × IfSome x.filter (IsAfter text K.Filter (IsInParens text (IsAfter text K.Where inside.expr)))
+    × IfSome x.over (IsOver text inside)
 
 -- WHEN expr THEN expr
-abbrev pub IsWhen : List ℕ → Nested → When Expr → Type 0
-IsWhen text nested x =
-    IsFixed text K.When x.when × nested.expr x.condition × IsFixed text K.Then x.then_word × nested.expr x.result
+abbrev pub IsWhen : List ℕ → Inside → When Expr → Type 0
+IsWhen text inside x =
+    IsFixed text K.When x.when × inside.expr x.condition × IsFixed text K.Then x.then_word × inside.expr x.result
 
 -- CASE [expr] when {when} [ELSE expr] END
-abbrev pub IsCase : List ℕ → Nested → Case Expr → Type 0
-IsCase text nested x =
-    IsFixed text K.Case x.case × IfSome x.subject nested.expr × IsWhen text nested x.first
-    × All (IsWhen text nested) x.more
-    × IfSome x.otherwise (IsAfter text K.Else nested.expr) × IsFixed text K.End x.end
+abbrev pub IsCase : List ℕ → Inside → Case Expr → Type 0
+IsCase text inside x =
+    IsFixed text K.Case x.case × IfSome x.subject inside.expr × IsWhen text inside x.first
+    × AllByRecursion (IsWhen text inside) x.more
+    × IfSome x.otherwise (IsAfter text K.Else inside.expr) × IsFixed text K.End x.end
 
 -- CAST "(" expr AS [type] ")"
-abbrev pub IsCast : List ℕ → Nested → Cast Expr → Type 0
-IsCast text nested x =
-    IsFixed text K.Cast x.cast × IsSign text (codes "(") x.opening × nested.expr x.expr × IsFixed text K.As x.as_word
+abbrev pub IsCast : List ℕ → Inside → Cast Expr → Type 0
+IsCast text inside x =
+    IsFixed text K.Cast x.cast × IsSign text (codes "(") x.opening × inside.expr x.expr × IsFixed text K.As x.as_word
     × IfSome x.column_type (IsColumnType text) × IsSign text (codes ")") x.closing
 
 -- IGNORE | action "," expr
-abbrev pub IsRaiseAction : List ℕ → Nested → RaiseAction Expr → Type 0
-IsRaiseAction text nested (RaiseAction'.Ignore t) = IsFixed text K.Ignore t
-IsRaiseAction text nested (RaiseAction'.Action action message) =
-    IsAction text action × IsSign text (codes ",") message.comma × nested.expr message.item
+abbrev pub IsRaiseAction : List ℕ → Inside → RaiseAction Expr → Type 0
+IsRaiseAction text inside (RaiseAction'.Ignore t) = IsFixed text K.Ignore t
+IsRaiseAction text inside (RaiseAction'.Action action message) =
+    IsAction text action × IsSign text (codes ",") message.comma × inside.expr message.item
 
 -- RAISE "(" (IGNORE | action "," expr) ")"
-abbrev pub IsRaise : List ℕ → Nested → Raise Expr → Type 0
-IsRaise text nested x = IsFixed text K.Raise x.raise × IsInParens text (IsRaiseAction text nested) x.action
+abbrev pub IsRaise : List ℕ → Inside → Raise Expr → Type 0
+IsRaise text inside x = IsFixed text K.Raise x.raise × IsInParens text (IsRaiseAction text inside) x.action
 
 -- "(" exprs ")", where a select would begin with WITH
-abbrev pub IsRow : List ℕ → Nested → Commas Expr → Type 0
-IsRow text nested x = AreCommas text nested.expr x × BeginsWithout text (K.With ∷ []) (commas_tokens expr_tokens x)
+abbrev pub IsRow : List ℕ → Inside → Commas Expr → Type 0
+IsRow text inside x = AreCommas text inside.expr x × BeginsWithout text (K.With ∷ []) (commas_tokens expr_tokens x)
 
 -- "(" [exprs] ")" of a function
-abbrev pub AreArguments : List ℕ → Nested → InParens (Option (Commas Expr)) → Type 0
-AreArguments text nested x = IsInParens text (λ inner. IfSome inner (AreCommas text nested.expr)) x
+abbrev pub AreArguments : List ℕ → Inside → InParens (Option (Commas Expr)) → Type 0
+AreArguments text inside x = IsInParens text (λ inner. IfSome inner (AreCommas text inside.expr)) x
 
 -- "(" [exprs] ")" | "(" select ")" | object | name "(" [exprs] ")"
-abbrev pub IsInSet : List ℕ → Nested → OpenInSet → Type 0
-IsInSet text nested (InSet-F.List x) = IsInParens text (λ inner. IfSome inner (IsRow text nested)) x
-IsInSet text nested (InSet-F.Query x) = IsInParens text nested.select x
-IsInSet text nested (InSet-F.Object x) = IsObject text x
-IsInSet text nested (InSet-F.Function name arguments) = IsName text name × AreArguments text nested arguments
+abbrev pub IsInSet : List ℕ → Inside → OpenInSet → Type 0
+IsInSet text inside (InSet-F.List x) = IsInParens text (λ inner. IfSome inner (IsRow text inside)) x
+IsInSet text inside (InSet-F.Query x) = IsInParens text inside.select x
+IsInSet text inside (InSet-F.Object x) = IsObject text x
+IsInSet text inside (InSet-F.Function name arguments) = IsName text name × AreArguments text inside arguments
 
 -- literal | column-use | call | "(" exprs ")" | [EXISTS] "(" select ")" | CASE .. | CAST .. | RAISE ..
-abbrev pub IsOperand : List ℕ → Nested → OpenOperand → Type 0
-IsOperand text nested (Operand-F.Literal x) = IsLiteral text x
-IsOperand text nested (Operand-F.Column x) = IsColumnUse text nested x
-IsOperand text nested (Operand-F.Call x) = IsCall text nested x
-IsOperand text nested (Operand-F.Exprs x) = IsInParens text (IsRow text nested) x
-IsOperand text nested (Operand-F.Subquery exists select) =
-    IfSome exists (IsFixed text K.Exists) × IsInParens text nested.select select
-IsOperand text nested (Operand-F.Case x) = IsCase text nested x
-IsOperand text nested (Operand-F.Cast x) = IsCast text nested x
-IsOperand text nested (Operand-F.Raise x) = IsRaise text nested x
+abbrev pub IsOperand : List ℕ → Inside → OpenOperand → Type 0
+IsOperand text inside (Operand-F.Literal x) = IsLiteral text x
+IsOperand text inside (Operand-F.Column x) = IsColumnUse text inside x
+IsOperand text inside (Operand-F.Call x) = IsCall text inside x
+IsOperand text inside (Operand-F.Exprs x) = IsInParens text (IsRow text inside) x
+IsOperand text inside (Operand-F.Subquery exists select) =
+    IfSome exists (IsFixed text K.Exists) × IsInParens text inside.select select
+IsOperand text inside (Operand-F.Case x) = IsCase text inside x
+IsOperand text inside (Operand-F.Cast x) = IsCast text inside x
+IsOperand text inside (Operand-F.Raise x) = IsRaise text inside x
 
 -- COLLATE name | ISNULL | NOTNULL | NOT NULL | [NOT] IN set
-abbrev pub IsPostfix : List ℕ → Nested → OpenPostfix → Type 0
-IsPostfix text nested (Postfix-F.Collate collate name) = IsFixed text K.Collate collate × IsName text name
-IsPostfix text nested (Postfix-F.IsNull t) = IsFixed text K.IsNull t
-IsPostfix text nested (Postfix-F.NotNull t) = IsFixed text K.NotNull t
-IsPostfix text nested (Postfix-F.NotNullWords not null) = IsFixed text K.Not not × IsFixed text K.Null null
-IsPostfix text nested (Postfix-F.In not in_word set) =
-    IfSome not (IsFixed text K.Not) × IsFixed text K.In in_word × IsInSet text nested (out-InSet set)
+abbrev pub IsPostfix : List ℕ → Inside → OpenPostfix → Type 0
+IsPostfix text inside (Postfix-F.Collate collate name) = IsFixed text K.Collate collate × IsName text name
+IsPostfix text inside (Postfix-F.IsNull t) = IsFixed text K.IsNull t
+IsPostfix text inside (Postfix-F.NotNull t) = IsFixed text K.NotNull t
+IsPostfix text inside (Postfix-F.NotNullWords not null) = IsFixed text K.Not not × IsFixed text K.Null null
+IsPostfix text inside (Postfix-F.In not in_word set) =
+    IfSome not (IsFixed text K.Not) × IsFixed text K.In in_word × IsInSet text inside (out-InSet set)
 
 -- "-" | "+" | "~" | NOT
 abbrev pub IsPrefix : List ℕ → Token → Type 0
@@ -340,20 +308,20 @@ IsPrefix text t =
     IsSign text (codes "-") t ⊎ (IsSign text (codes "+") t ⊎ (IsSign text (codes "~") t ⊎ IsFixed text K.Not t))
 
 -- {"-" | "+" | "~" | NOT} operand {postfix}
-abbrev pub IsPart : List ℕ → Nested → Part → Type 0
-IsPart text nested x =
-    All (IsPrefix text) (out-Part x).prefixes × IsOperand text nested (out-Operand (out-Part x).operand)
-    × All (λ postfix. IsPostfix text nested (out-Postfix postfix)) (out-Part x).postfixes
+abbrev pub IsPart : List ℕ → Inside → Part → Type 0
+IsPart text inside x =
+    AllByRecursion (IsPrefix text) (out-Part x).prefixes × IsOperand text inside (out-Operand (out-Part x).operand)
+    × AllByRecursion (λ postfix. IsPostfix text inside (out-Postfix postfix)) (out-Part x).postfixes
 
 -- infix part
-abbrev pub IsInfixPart : List ℕ → Nested → InfixPart → Type 0
-IsInfixPart text nested x =
-    IsInfix text (out-InfixPart x).operator × IsPart text nested (out-InfixPart x).part
+abbrev pub IsInfixPart : List ℕ → Inside → InfixPart → Type 0
+IsInfixPart text inside x =
+    IsInfix text (out-InfixPart x).operator × IsPart text inside (out-InfixPart x).part
     × LeavesNot text (out-InfixPart x).operator (part_tokens (out-InfixPart x).part)
 
 -- part {infix part}
-abbrev pub IsExpr : List ℕ → Nested → Expr → Type 0
-IsExpr text nested x = IsPart text nested (out-Expr x).first × All (IsInfixPart text nested) (out-Expr x).more
+abbrev pub IsExpr : List ℕ → Inside → Expr → Type 0
+IsExpr text inside x = IsPart text inside (out-Expr x).first × AllByRecursion (IsInfixPart text inside) (out-Expr x).more
 
 -- (LEFT|RIGHT|FULL) [OUTER] | INNER | CROSS
 abbrev pub IsJoinKind : List ℕ → JoinKind → Type 0
@@ -369,9 +337,9 @@ IsJoin text (Join'.Join natural kind join) =
     IfSome natural (IsFixed text K.Natural) × IfSome kind (IsJoinKind text) × IsFixed text K.Join join
 
 -- ON expr | USING "(" names ")"
-abbrev pub IsJoinConstraint : List ℕ → Nested → JoinConstraint Expr → Type 0
-IsJoinConstraint text nested (JoinConstraint'.On x) = IsAfter text K.On nested.expr x
-IsJoinConstraint text nested (JoinConstraint'.Using using names) = IsFixed text K.Using using × AreNames text names
+abbrev pub IsJoinConstraint : List ℕ → Inside → JoinConstraint Expr → Type 0
+IsJoinConstraint text inside (JoinConstraint'.On x) = IsAfter text K.On inside.expr x
+IsJoinConstraint text inside (JoinConstraint'.Using using names) = IsFixed text K.Using using × AreNames text names
 
 -- INDEXED BY name | NOT INDEXED
 abbrev pub IsIndexing : List ℕ → Indexing → Type 0
@@ -380,43 +348,43 @@ IsIndexing text (Indexing'.Not not indexed) = IsFixed text K.Not not × IsFixed 
 
 -- object [[AS] alias] [INDEXED BY name | NOT INDEXED] | name "(" [exprs] ")" [[AS] alias] | "(" select ")" [[AS] alias]
 -- | "(" sources ")", where a select would begin with WITH
-abbrev pub IsTableSource : List ℕ → Nested → OpenTableSource → Type 0
-IsTableSource text nested (TableSource-F.Table object alias indexing) =
+abbrev pub IsTableSource : List ℕ → Inside → OpenTableSource → Type 0
+IsTableSource text inside (TableSource-F.Table object alias indexing) =
     IsObject text object × IfSome alias (IsAlias text) × IfSome indexing (IsIndexing text)
-IsTableSource text nested (TableSource-F.TableFunction name arguments alias) =
-    IsName text name × AreArguments text nested arguments × IfSome alias (IsAlias text)
-IsTableSource text nested (TableSource-F.Derived select alias) =
-    IsInParens text nested.select select × IfSome alias (IsAlias text)
-IsTableSource text nested (TableSource-F.Sources x) =
-    IsInParens text (λ inner. nested.sources inner × BeginsWithout text (K.With ∷ []) (sources_tokens inner)) x
+IsTableSource text inside (TableSource-F.TableFunction name arguments alias) =
+    IsName text name × AreArguments text inside arguments × IfSome alias (IsAlias text)
+IsTableSource text inside (TableSource-F.Derived select alias) =
+    IsInParens text inside.select select × IfSome alias (IsAlias text)
+IsTableSource text inside (TableSource-F.Sources x) =
+    IsInParens text (λ inner. inside.sources inner × BeginsWithout text (K.With ∷ []) (sources_tokens inner)) x
 
 -- join source [ON expr | USING "(" names ")"]
-abbrev pub IsJoinedSource : List ℕ → Nested → JoinedSource → Type 0
-IsJoinedSource text nested x =
-    IsJoin text (out-JoinedSource x).join × IsTableSource text nested (out-TableSource (out-JoinedSource x).source)
-    × IfSome (out-JoinedSource x).constraint (IsJoinConstraint text nested)
+abbrev pub IsJoinedSource : List ℕ → Inside → JoinedSource → Type 0
+IsJoinedSource text inside x =
+    IsJoin text (out-JoinedSource x).join × IsTableSource text inside (out-TableSource (out-JoinedSource x).source)
+    × IfSome (out-JoinedSource x).constraint (IsJoinConstraint text inside)
 
 -- source {join source [ON expr | USING "(" names ")"]}
-abbrev pub IsSources : List ℕ → Nested → Sources → Type 0
-IsSources text nested x =
-    IsTableSource text nested (out-TableSource (out-Sources x).first)
-    × All (IsJoinedSource text nested) (out-Sources x).more
+abbrev pub IsSources : List ℕ → Inside → Sources → Type 0
+IsSources text inside x =
+    IsTableSource text inside (out-TableSource (out-Sources x).first)
+    × AllByRecursion (IsJoinedSource text inside) (out-Sources x).more
 
 -- [NOT] MATERIALIZED
 abbrev pub IsMaterialized : List ℕ → Materialized → Type 0
 IsMaterialized text x = IfSome x.not (IsFixed text K.Not) × IsFixed text K.Materialized x.materialized
 
 -- name ["(" names ")"] AS [[NOT] MATERIALIZED] "(" select ")"
-abbrev pub IsCte : List ℕ → Nested → Cte Select → Type 0
-IsCte text nested x =
+abbrev pub IsCte : List ℕ → Inside → Cte Select → Type 0
+IsCte text inside x =
     IsName text x.name × IfSome x.columns (AreNames text) × IsFixed text K.As x.as_word
-    × IfSome x.materialized (IsMaterialized text) × IsInParens text nested.select x.select
+    × IfSome x.materialized (IsMaterialized text) × IsInParens text inside.select x.select
 
 -- WITH [RECURSIVE] ctes, where the first name is no RECURSIVE
-abbrev pub IsWith : List ℕ → Nested → With Select → Type 0
-IsWith text nested x =
+abbrev pub IsWith : List ℕ → Inside → With Select → Type 0
+IsWith text inside x =
     IsFixed text K.With x.with_word × IfSome x.recursive (IsFixed text K.Recursive)
-    × AreCommas text (IsCte text nested) x.ctes
+    × AreCommas text (IsCte text inside) x.ctes
     × IfNone x.recursive (IsNoneOf text (K.Recursive ∷ []) x.ctes.first.name)
 
 -- UNION [ALL] | EXCEPT | INTERSECT
@@ -426,64 +394,64 @@ IsCompound text (Compound'.Except t) = IsFixed text K.Except t
 IsCompound text (Compound'.Intersect t) = IsFixed text K.Intersect t
 
 -- LIMIT expr [(OFFSET | ",") expr]
-abbrev pub IsLimit : List ℕ → Nested → Limit Expr → Type 0
-IsLimit text nested x =
-    IsFixed text K.Limit x.limit × nested.expr x.count
+abbrev pub IsLimit : List ℕ → Inside → Limit Expr → Type 0
+IsLimit text inside x =
+    IsFixed text K.Limit x.limit × inside.expr x.count
     × IfSome x.second
-    (λ second. (IsFixed text K.Offset second.word ⊎ IsSign text (codes ",") second.word) × nested.expr second.part)
+    (λ second. (IsFixed text K.Offset second.word ⊎ IsSign text (codes ",") second.word) × inside.expr second.part)
 
 -- "*" | name "." "*" | expr [[AS] alias]
-abbrev pub IsResultItem : List ℕ → Nested → ResultItem Expr → Type 0
-IsResultItem text nested (ResultItem'.Star t) = IsSign text (codes "*") t
-IsResultItem text nested (ResultItem'.AllOf name dot star) =
+abbrev pub IsResultItem : List ℕ → Inside → ResultItem Expr → Type 0
+IsResultItem text inside (ResultItem'.Star t) = IsSign text (codes "*") t
+IsResultItem text inside (ResultItem'.AllOf name dot star) =
     IsOperandName text name × IsSign text (codes ".") dot × IsSign text (codes "*") star
-IsResultItem text nested (ResultItem'.Expr expr alias) = nested.expr expr × IfSome alias (IsAlias text)
+IsResultItem text inside (ResultItem'.Expr expr alias) = inside.expr expr × IfSome alias (IsAlias text)
 
 -- "(" exprs ")"
-abbrev pub IsValuesRow : List ℕ → Nested → ValuesRow Expr → Type 0
-IsValuesRow text nested x = IsInParens text (AreCommas text nested.expr) x.exprs
+abbrev pub IsValuesRow : List ℕ → Inside → ValuesRow Expr → Type 0
+IsValuesRow text inside x = IsInParens text (AreCommas text inside.expr) x.exprs
 
 -- SELECT [DISTINCT|ALL] items [FROM sources] [WHERE expr] [GROUP BY exprs] [HAVING expr] [WINDOW named-windows]
-abbrev pub IsSelectArm : List ℕ → Nested → OpenSelectArm → Type 0
-IsSelectArm text nested x =
+abbrev pub IsSelectArm : List ℕ → Inside → OpenSelectArm → Type 0
+IsSelectArm text inside x =
     IsFixed text K.Select x.select × IfSome x.quantifier (IsOneOf text (K.Distinct ∷ K.All ∷ []))
-    × AreCommas text (IsResultItem text nested) x.items × IfSome x.from (IsAfter text K.From nested.sources)
-    × IfSome x.filter (IsAfter text K.Where nested.expr) × IfSome x.group (IsBy text K.Group nested.expr)
-    × IfSome x.having (IsAfter text K.Having nested.expr)
-    × IfSome x.windows (IsAfter text K.Window (AreCommas text (IsNamedWindow text nested)))
+    × AreCommas text (IsResultItem text inside) x.items × IfSome x.from (IsAfter text K.From inside.sources)
+    × IfSome x.filter (IsAfter text K.Where inside.expr) × IfSome x.group (IsBy text K.Group inside.expr)
+    × IfSome x.having (IsAfter text K.Having inside.expr)
+    × IfSome x.windows (IsAfter text K.Window (AreCommas text (IsNamedWindow text inside)))
 
 -- SELECT .. | VALUES rows
-abbrev pub IsArm : List ℕ → Nested → OpenArm → Type 0
-IsArm text nested (Arm-F.Select x) = IsSelectArm text nested (out-SelectArm x)
-IsArm text nested (Arm-F.Values values rows) =
-    IsFixed text K.Values values × AreCommas text (IsValuesRow text nested) rows
+abbrev pub IsArm : List ℕ → Inside → OpenArm → Type 0
+IsArm text inside (Arm-F.Select x) = IsSelectArm text inside (out-SelectArm x)
+IsArm text inside (Arm-F.Values values rows) =
+    IsFixed text K.Values values × AreCommas text (IsValuesRow text inside) rows
 
 -- compound arm
-abbrev pub IsCompoundArm : List ℕ → Nested → CompoundArm → Type 0
-IsCompoundArm text nested x =
-    IsCompound text (out-CompoundArm x).compound × IsArm text nested (out-Arm (out-CompoundArm x).arm)
+abbrev pub IsCompoundArm : List ℕ → Inside → CompoundArm → Type 0
+IsCompoundArm text inside x =
+    IsCompound text (out-CompoundArm x).compound × IsArm text inside (out-Arm (out-CompoundArm x).arm)
 
 -- [WITH [RECURSIVE] ctes] arm {compound arm} [ORDER BY terms] [LIMIT expr [(OFFSET | ",") expr]]
-abbrev pub IsSelect : List ℕ → Nested → Select → Type 0
-IsSelect text nested x =
-    IfSome (out-Select x).with_clause (IsWith text nested) × IsArm text nested (out-Arm (out-Select x).arm)
-    × All (IsCompoundArm text nested) (out-Select x).compounds
-    × IfSome (out-Select x).order (IsBy text K.Order (IsTerm text nested))
-    × IfSome (out-Select x).limit (IsLimit text nested)
+abbrev pub IsSelect : List ℕ → Inside → Select → Type 0
+IsSelect text inside x =
+    IfSome (out-Select x).with_clause (IsWith text inside) × IsArm text inside (out-Arm (out-Select x).arm)
+    × AllByRecursion (IsCompoundArm text inside) (out-Select x).compounds
+    × IfSome (out-Select x).order (IsBy text K.Order (IsTerm text inside))
+    × IfSome (out-Select x).limit (IsLimit text inside)
 
 -- trees of less than this height are of their rules, where `column` says which name of a column may stand alone
-abbrev pub NestedAt : List ℕ → (Token → Type 0) → ℕ → Nested
-NestedAt text column zero = record { column = column; expr = λ _. ⊥; select = λ _. ⊥; sources = λ _. ⊥ }
-NestedAt text column (suc n) = record {
+abbrev pub InsideAt : List ℕ → (Token → Type 0) → ℕ → Inside
+InsideAt text column zero = record { column = column; expr = λ _. ⊥; select = λ _. ⊥; sources = λ _. ⊥ }
+InsideAt text column (suc n) = record {
   column = column;
-  expr = IsExpr text (NestedAt text column n);
-  select = IsSelect text (NestedAt text column n);
-  sources = IsSources text (NestedAt text column n);
+  expr = IsExpr text (InsideAt text column n);
+  select = IsSelect text (InsideAt text column n);
+  sources = IsSources text (InsideAt text column n);
 }
 
 -- the same, where no Str is a column
-abbrev pub UsualAt : List ℕ → ℕ → Nested
-UsualAt text n = NestedAt text (IsColumnName text) n
+abbrev pub UsualAt : List ℕ → ℕ → Inside
+UsualAt text n = InsideAt text (IsColumnName text) n
 
 -- the tree is of the rule of expressions, and of at most this height
 abbrev pub IsExprAt : List ℕ → ℕ → Expr → Type 0

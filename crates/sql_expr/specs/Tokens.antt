@@ -1,4 +1,5 @@
-use Rattle.std.specs.Prelude.{List, [], ◌∷◌, ◌++◌, Option, Some, None}
+-- What a tree of each rule spells, in order.
+use Rattle.std.specs.Prelude.{◌≡◌, List, [], ◌∷◌, ◌++◌, Option, Some, None}
 use Rattle.sql_token.specs.declared.token.Token.{Token}
 use Rattle.sql_expr.specs.declared.lists.TokenPair.{TokenPair}
 use Rattle.sql_expr.specs.declared.lists.After.{After}
@@ -57,6 +58,13 @@ use Rattle.sql_expr.specs.declared.select.Limit.{Limit}
 use Rattle.sql_expr.specs.declared.select.ResultItem.{ResultItem}
 use Rattle.sql_expr.specs.declared.select.ResultItem.TheVariants as ResultItem'
 use Rattle.sql_expr.specs.declared.select.ValuesRow.{ValuesRow}
+
+-- a front of what is spelled was added to the old list, which gives the new one
+pub record AddsFront (spelled old new : List Token) : Type 0 where
+  pub front : List Token
+  pub rest : List Token
+  pub parts : spelled ≡ front ++ rest
+  pub added : new ≡ old ++ front
 
 -- what the items of a list spell, one behind the other
 abbrev pub flat : {A : Type 0} → (A → List Token) → List A → List Token

@@ -130,48 +130,48 @@ module _ {InSet Operand Postfix Arm TableSource Expr InfixPart Part CompoundArm 
       SelectArm JoinedSource Sources → L
   sources_level table_source joined_source x = table_source x.first ++ flat joined_source x.more
 
--- what stands in the place of a child has been spelled already
-abbrev pub same : L → L
-same tokens = tokens
+-- what a child spells, where it has been spelled already
+abbrev pub already : L → L
+already tokens = tokens
 
 abbrev pub in_set_step : InSet-F L L L L L L L L L L L L L → L
-in_set_step = in_set_level same same
+in_set_step = in_set_level already already
 
 abbrev pub operand_step : Operand-F L L L L L L L L L L L L L → L
-operand_step = operand_level same same
+operand_step = operand_level already already
 
 abbrev pub postfix_step : Postfix-F L L L L L L L L L L L L L → L
-postfix_step = postfix_level same
+postfix_step = postfix_level already
 
 abbrev pub arm_step : Arm-F L L L L L L L L L L L L L → L
-arm_step = arm_level same same
+arm_step = arm_level already already
 
 abbrev pub table_source_step : TableSource-F L L L L L L L L L L L L L → L
-table_source_step = table_source_level same same same
+table_source_step = table_source_level already already already
 
 abbrev pub expr_step : Expr-F L L L L L L L L L L L L L → L
-expr_step = expr_level same same
+expr_step = expr_level already already
 
 abbrev pub infix_part_step : InfixPart-F L L L L L L L L L L L L L → L
-infix_part_step = infix_part_level same
+infix_part_step = infix_part_level already
 
 abbrev pub part_step : Part-F L L L L L L L L L L L L L → L
-part_step = part_level same same
+part_step = part_level already already
 
 abbrev pub compound_arm_step : CompoundArm-F L L L L L L L L L L L L L → L
-compound_arm_step = compound_arm_level same
+compound_arm_step = compound_arm_level already
 
 abbrev pub select_step : Select-F L L L L L L L L L L L L L → L
-select_step = select_level same same same same
+select_step = select_level already already already already
 
 abbrev pub select_arm_step : SelectArm-F L L L L L L L L L L L L L → L
-select_arm_step = select_arm_level same same
+select_arm_step = select_arm_level already already
 
 abbrev pub joined_source_step : JoinedSource-F L L L L L L L L L L L L L → L
-joined_source_step = joined_source_level same same
+joined_source_step = joined_source_level already already
 
 abbrev pub sources_step : Sources-F L L L L L L L L L L L L L → L
-sources_step = sources_level same same
+sources_step = sources_level already already
 
 -- what an in set spells, in order
 unfoldable pub in_set_tokens : InSet → L

@@ -5,7 +5,6 @@ use crate::lists::{Commas, InParens};
 use crate::names::{ColumnUse, Object};
 use crate::operators::{Infix, Literal};
 use crate::select::Select;
-use crate::spell_all;
 use crate::spelled::{Spelled, tokens_of};
 use sql_token::Token;
 use sqlite_items::{Boxed, Items};
@@ -26,7 +25,8 @@ impl Spelled for Expr {
 
     #[cycle(flatten)]
     fn spell(&self, tokens: &mut Vec<Token>) -> Result<(), AllocError> {
-        spell_all!(tokens; self.first, self.more)
+        self.first.spell(tokens)?;
+        self.more.spell(tokens)
     }
 }
 
@@ -57,7 +57,8 @@ impl Spelled for InfixPart {
 
     #[cycle(flatten)]
     fn spell(&self, tokens: &mut Vec<Token>) -> Result<(), AllocError> {
-        spell_all!(tokens; self.operator, self.part)
+        self.operator.spell(tokens)?;
+        self.part.spell(tokens)
     }
 }
 
@@ -77,7 +78,9 @@ impl Spelled for Part {
 
     #[cycle(flatten)]
     fn spell(&self, tokens: &mut Vec<Token>) -> Result<(), AllocError> {
-        spell_all!(tokens; self.prefixes, self.operand, self.postfixes)
+        self.prefixes.spell(tokens)?;
+        self.operand.spell(tokens)?;
+        self.postfixes.spell(tokens)
     }
 }
 
@@ -115,11 +118,21 @@ impl Spelled for Postfix {
     #[cycle(flatten)]
     fn spell(&self, tokens: &mut Vec<Token>) -> Result<(), AllocError> {
         match self {
-            Postfix::Collate { collate, name } => spell_all!(tokens; collate, name),
+            Postfix::Collate { collate, name } => {
+                collate.spell(tokens)?;
+                name.spell(tokens)
+            }
             Postfix::IsNull(part) => part.spell(tokens),
             Postfix::NotNull(part) => part.spell(tokens),
-            Postfix::NotNullWords { not, null } => spell_all!(tokens; not, null),
-            Postfix::In { not, in_word, set } => spell_all!(tokens; not, in_word, set),
+            Postfix::NotNullWords { not, null } => {
+                not.spell(tokens)?;
+                null.spell(tokens)
+            }
+            Postfix::In { not, in_word, set } => {
+                not.spell(tokens)?;
+                in_word.spell(tokens)?;
+                set.spell(tokens)
+            }
         }
     }
 }
@@ -152,7 +165,10 @@ impl Spelled for InSet {
             InSet::List(part) => part.spell(tokens),
             InSet::Query(part) => part.spell(tokens),
             InSet::Object(part) => part.spell(tokens),
-            InSet::Function { name, arguments } => spell_all!(tokens; name, arguments),
+            InSet::Function { name, arguments } => {
+                name.spell(tokens)?;
+                arguments.spell(tokens)
+            }
         }
     }
 }
@@ -194,7 +210,10 @@ impl Spelled for Operand {
             Operand::Column(part) => part.spell(tokens),
             Operand::Call(part) => part.spell(tokens),
             Operand::Exprs(part) => part.spell(tokens),
-            Operand::Subquery { exists, select } => spell_all!(tokens; exists, select),
+            Operand::Subquery { exists, select } => {
+                exists.spell(tokens)?;
+                select.spell(tokens)
+            }
             Operand::Case(part) => part.spell(tokens),
             Operand::Cast(part) => part.spell(tokens),
             Operand::Raise(part) => part.spell(tokens),

@@ -3,6 +3,7 @@
 
 mod call;
 mod expr;
+mod leaf;
 mod lists;
 mod names;
 mod operators;
@@ -13,6 +14,10 @@ mod window;
 
 pub use call::{Call, CallArguments, Case, Cast, Over, Raise, RaiseAction, When};
 pub use expr::{Expr, InSet, InfixPart, Operand, Part, Postfix};
+pub use leaf::{
+    is_bare_alias, is_column_name, is_no_join_word, is_none_of, is_number_kind, is_one_of,
+    is_operand_name, is_operator_sign, is_type_name,
+};
 pub use lists::{After, By, Commas, InParens, NextItem, TokenPair};
 pub use names::{Alias, ColumnType, ColumnUse, Object, Signed, TypeSize};
 pub use operators::{Action, Infix, Literal};
@@ -21,5 +26,5 @@ pub use select::{
     With,
 };
 pub use source::{Indexing, Join, JoinConstraint, JoinKind, JoinedSource, Sources, TableSource};
-pub use spelled::{Spelled, tokens_of};
+pub use spelled::{Both, Spelled, Three, tokens_of};
 pub use window::{Bound, Excluded, Frame, FrameExtent, NamedWindow, Term, Window};

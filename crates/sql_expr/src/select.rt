@@ -178,10 +178,14 @@ impl Spelled for SelectArm {
 
     #[cycle(flatten)]
     fn spell(&self, tokens: &mut Vec<Token>) -> Result<(), AllocError> {
-        spell_all!(
-            tokens; self.select, self.quantifier, self.items, self.from, self.filter, self.group,
-            self.having, self.windows
-        )
+        self.select.spell(tokens)?;
+        self.quantifier.spell(tokens)?;
+        self.items.spell(tokens)?;
+        self.from.spell(tokens)?;
+        self.filter.spell(tokens)?;
+        self.group.spell(tokens)?;
+        self.having.spell(tokens)?;
+        self.windows.spell(tokens)
     }
 }
 
@@ -207,7 +211,10 @@ impl Spelled for Arm {
     fn spell(&self, tokens: &mut Vec<Token>) -> Result<(), AllocError> {
         match self {
             Arm::Select(part) => part.spell(tokens),
-            Arm::Values { values, rows } => spell_all!(tokens; values, rows),
+            Arm::Values { values, rows } => {
+                values.spell(tokens)?;
+                rows.spell(tokens)
+            }
         }
     }
 }
@@ -227,7 +234,8 @@ impl Spelled for CompoundArm {
 
     #[cycle(flatten)]
     fn spell(&self, tokens: &mut Vec<Token>) -> Result<(), AllocError> {
-        spell_all!(tokens; self.compound, self.arm)
+        self.compound.spell(tokens)?;
+        self.arm.spell(tokens)
     }
 }
 
@@ -249,7 +257,11 @@ impl Spelled for Select {
 
     #[cycle(flatten)]
     fn spell(&self, tokens: &mut Vec<Token>) -> Result<(), AllocError> {
-        spell_all!(tokens; self.with_clause, self.arm, self.compounds, self.order, self.limit)
+        self.with_clause.spell(tokens)?;
+        self.arm.spell(tokens)?;
+        self.compounds.spell(tokens)?;
+        self.order.spell(tokens)?;
+        self.limit.spell(tokens)
     }
 }
 

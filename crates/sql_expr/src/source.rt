@@ -134,7 +134,8 @@ impl Spelled for Sources {
 
     #[cycle(flatten)]
     fn spell(&self, tokens: &mut Vec<Token>) -> Result<(), AllocError> {
-        spell_all!(tokens; self.first, self.more)
+        self.first.spell(tokens)?;
+        self.more.spell(tokens)
     }
 }
 
@@ -154,7 +155,9 @@ impl Spelled for JoinedSource {
 
     #[cycle(flatten)]
     fn spell(&self, tokens: &mut Vec<Token>) -> Result<(), AllocError> {
-        spell_all!(tokens; self.join, self.source, self.constraint)
+        self.join.spell(tokens)?;
+        self.source.spell(tokens)?;
+        self.constraint.spell(tokens)
     }
 }
 
@@ -195,13 +198,24 @@ impl Spelled for TableSource {
                 object,
                 alias,
                 indexing,
-            } => spell_all!(tokens; object, alias, indexing),
+            } => {
+                object.spell(tokens)?;
+                alias.spell(tokens)?;
+                indexing.spell(tokens)
+            }
             TableSource::TableFunction {
                 name,
                 arguments,
                 alias,
-            } => spell_all!(tokens; name, arguments, alias),
-            TableSource::Derived { select, alias } => spell_all!(tokens; select, alias),
+            } => {
+                name.spell(tokens)?;
+                arguments.spell(tokens)?;
+                alias.spell(tokens)
+            }
+            TableSource::Derived { select, alias } => {
+                select.spell(tokens)?;
+                alias.spell(tokens)
+            }
             TableSource::Sources(part) => part.spell(tokens),
         }
     }

@@ -1,1 +1,3 @@
 pub mod Depths
+pub mod Keys
+pub mod SmallTrees

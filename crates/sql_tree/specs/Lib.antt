@@ -1,3 +1,4 @@
+pub mod Keys
 pub mod Rules
 pub mod Nesting
 pub mod Tokens

@@ -15,22 +15,22 @@ use Rattle.sql_tree.specs.declared.nesting.Opening.TheVariants.{Parenthesis, Cas
 use Rattle.sql_tree.specs.declared.nesting.Effect.{Effect}
 use Rattle.sql_tree.specs.declared.nesting.Effect.TheVariants.{Opens, Closes, Ends, Keeps}
 
--- the lists are equal
-abbrev pub same : List ℕ → List ℕ → Bool
-same bytes others = pointwise nat_eq bytes others
+-- the bytes are the same
+abbrev pub same_bytes : List ℕ → List ℕ → Bool
+same_bytes bytes others = pointwise nat_eq bytes others
 
 -- what an operator does: `(` opens a level, `)` closes down to and with a parenthesis
 abbrev pub effect_of_sign : List ℕ → Effect
 effect_of_sign sign =
-    if same sign (codes "(") then Opens Parenthesis
-    else (if same sign (codes ")") then Closes
+    if same_bytes sign (codes "(") then Opens Parenthesis
+    else (if same_bytes sign (codes ")") then Closes
     else Keeps)
 
 -- what a word does: CASE opens a level, END ends a CASE
 abbrev pub effect_of_word : List ℕ → Effect
 effect_of_word word =
-    if same (folded word) (spelling keyword.Case) then Opens Case
-    else (if same (folded word) (spelling keyword.End) then Ends
+    if same_bytes (folded word) (spelling keyword.Case) then Opens Case
+    else (if same_bytes (folded word) (spelling keyword.End) then Ends
     else Keeps)
 
 -- what a token of the kind with these bytes does

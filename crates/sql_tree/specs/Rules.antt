@@ -1,25 +1,16 @@
 -- What a tree of each rule above expressions and selects may hold, at a height of these.
-use Rattle.std.specs.Prelude.{◌≡◌, ◌≢◌, ◌⊎◌, ◌+◌, ◌≤◌, ◌++◌, ℕ, zero, suc, List, [], ◌∷◌, None, All, IfSome, IsSomeAnd, codes}
+use Rattle.std.specs.Prelude.{◌≡◌, ◌⊎◌, ℕ, List, [], ◌∷◌, IfSome, IsTrue, codes}
+use Rattle.std.specs.List.{AllByRecursion}
 use Rattle.sql_token.specs.declared.token.Token.{Token}
 use Rattle.sql_token.specs.declared.token.TokenKind.TheVariants as Kind
 use Rattle.sql_token.specs.declared.keyword.Keyword.TheVariants as K
-use Rattle.sql_token.specs.Fixed.{IsFixed, IsSign}
-use Rattle.sql_expr.specs.Leaf.{IsWord, IsOneOf, IsNoneOf, AreFixed, IsName}
-use Rattle.sql_expr.specs.Rules.{NestedAt, UsualAt, IsExprAt, IsSelectAt, IsInParens, AreCommas, IsAfter, AreNames, IsObject, IsAction, IsLiteral, IsColumnType, OpenArm, OpenOperand, OpenPostfix}
+use Rattle.sql_token.specs.Fixed.{IsFixed, IsSign, IsName}
+use Rattle.sql_expr.specs.Leaf.{IsSpelledWord, IsOneOf, IsNoneOf, AreFixed, current_words}
+use Rattle.sql_expr.specs.Joined.{ends_in_joined}
+use Rattle.sql_expr.specs.Rules.{UsualAt, IsExprAt, IsSelectAt, IsInParens, AreCommas, IsAfter, AreNames, IsObject, IsAction, IsLiteral, IsColumnType}
+use Rattle.sql_tree.specs.Keys.{as_key}
 use Rattle.sql_tree.specs.Tokens.{column_tokens, create_table_tokens, create_index_tokens, create_view_tokens, create_trigger_tokens}
-use Rattle.sql_expr.specs.declared.expr.Expr.{Expr, out-Expr}
-use Rattle.sql_expr.specs.declared.expr.Part.{out-Part}
-use Rattle.sql_expr.specs.declared.expr.Operand.{out-Operand}
-use Rattle.sql_expr.specs.declared.expr.Postfix.{Postfix, out-Postfix}
-use Rattle.sql_expr.specs.declared.select.Arm.{Arm, out-Arm}
-use Rattle.sql_expr.specs.declared.select.CompoundArm.{CompoundArm, out-CompoundArm}
-use Rattle.sql_expr.specs.declared.select.Select.{Select, out-Select}
-use Rattle.sql_expr.specs.declared.select.SelectArm.{out-SelectArm}
-use Rattle.sql_expr.specs.declared.source.Sources.{Sources, out-Sources}
-use Rattle.sql_expr.specs.declared.source.JoinedSource.{JoinedSource, out-JoinedSource}
-use Rattle.sql_expr.specs.declared.expr.InSet.TheOpen.{Operand-F, Postfix-F, Arm-F}
-use Rattle.sql_expr.specs.declared.operators.Literal.TheVariants as Literal'
-use Rattle.sql_expr.specs.declared.names.ColumnUse.TheVariants as ColumnUse'
+use Rattle.sql_expr.specs.declared.expr.Expr.{Expr}
 use Rattle.sql_tree.specs.declared.tree.Tree.{Tree}
 use Rattle.sql_tree.specs.declared.tree.Tree.TheVariants as Tree'
 use Rattle.sql_tree.specs.declared.conflict.Resolution.{Resolution}
@@ -111,13 +102,13 @@ IsDeferral text x =
 abbrev pub IsReferences : List ℕ → References → Type 0
 IsReferences text x =
     IsFixed text K.References x.references × IsName text x.table × IfSome x.columns (AreNames text)
-    × All (IsReferenceClause text) x.clauses × IfSome x.deferral (IsDeferral text)
+    × AllByRecursion (IsReferenceClause text) x.clauses × IfSome x.deferral (IsDeferral text)
 
 -- WITHOUT ROWID | STRICT
 abbrev pub IsTableOption : List ℕ → TableOption → Type 0
 IsTableOption text (TableOption'.WithoutRowid without rowid) =
-    IsFixed text K.Without without × IsWord text (codes "rowid") rowid
-IsTableOption text (TableOption'.Strict t) = IsWord text (codes "strict") t
+    IsFixed text K.Without without × IsSpelledWord text (codes "rowid") rowid
+IsTableOption text (TableOption'.Strict t) = IsSpelledWord text (codes "strict") t
 
 -- ["+"|"-"] literal | name | "(" expr ")"; a Str directly behind DEFAULT is a literal
 abbrev pub IsDefaultValue : List ℕ → ℕ → DefaultValue → Type 0
@@ -125,55 +116,12 @@ IsDefaultValue text n (DefaultValue'.Literal sign literal) =
     IfSome sign (λ t. IsSign text (codes "+") t ⊎ IsSign text (codes "-") t) × IsLiteral text literal
 IsDefaultValue text n (DefaultValue'.Name name) =
     IsName text name × (name.kind ≡ Kind.Str → ⊥)
-    × IsNoneOf text (K.CurrentDate ∷ K.CurrentTime ∷ K.CurrentTimestamp ∷ []) name
+    × IsNoneOf text current_words name
 IsDefaultValue text n (DefaultValue'.Expr x) = IsInParens text (IsExprAt text n) x
-
--- so many COLLATE and nothing else
-abbrev pub AreCollates : ℕ → List Postfix → Type 0
-AreCollates zero [] = Unit {0}
-AreCollates zero (postfix ∷ more) = ⊥
-AreCollates (suc n) [] = ⊥
-AreCollates (suc n) (postfix ∷ more) = IsCollate (out-Postfix postfix) × AreCollates n more
-  where
-    IsCollate : OpenPostfix → Type 0
-    IsCollate (Postfix-F.Collate collate name) = Unit {0}
-    IsCollate _ = ⊥
-
--- parentheses round one expression
-abbrev pub HoldsOne : (Expr → Type 0) → OpenOperand → Type 0
-HoldsOne P (Operand-F.Exprs x) = (x.inner.more ≡ []) × P x.inner.first
-HoldsOne P _ = ⊥
-
--- the expression is one such operand with so many COLLATE, in parentheses or not
-abbrev pub IsAloneAt : (OpenOperand → Type 0) → ℕ → ℕ → Expr → Type 0
-IsAloneAt P zero collates x = ⊥
-IsAloneAt P (suc n) collates x =
-    ((out-Expr x).more ≡ []) × ((out-Part (out-Expr x).first).prefixes ≡ [])
-    × (outer : ℕ) × AreCollates outer (out-Part (out-Expr x).first).postfixes
-    × (inner : ℕ) × (outer + inner ≡ collates)
-    × (((inner ≡ 0) × P (out-Operand (out-Part (out-Expr x).first).operand))
-    ⊎ HoldsOne (IsAloneAt P n inner) (out-Operand (out-Part (out-Expr x).first).operand))
-
--- a Str as a text
-abbrev pub IsStrLiteral : OpenOperand → Type 0
-IsStrLiteral (Operand-F.Literal (Literal'.Str t)) = Unit {0}
-IsStrLiteral _ = ⊥
-
--- a Str as a column
-abbrev pub IsStrColumn : OpenOperand → Type 0
-IsStrColumn (Operand-F.Column (ColumnUse'.One t)) = Unit {0}
-IsStrColumn _ = ⊥
-
--- the expression is one Str that is a column, with one COLLATE at most
-abbrev pub IsStrKey : List ℕ → ℕ → Expr → Type 0
-IsStrKey text n x = (collates : ℕ) × (collates ≤ 1) × IsAloneAt IsStrColumn n collates x
-    × (NestedAt text (λ t. t.kind ≡ Kind.Str) n).expr x
 
 -- an expression in a list of keys of a table or an index: where it is one Str, with COLLATE or not, the Str is a column
 abbrev pub IsKeyExpr : List ℕ → ℕ → Expr → Type 0
-IsKeyExpr text n x =
-    IsStrKey text n x
-    ⊎ (IsExprAt text n x × ((m : ℕ) (collates : ℕ) → collates ≤ 1 → IsAloneAt IsStrLiteral m collates x → ⊥))
+IsKeyExpr text n x = (read : Expr) × IsExprAt text n read × (x ≡ as_key n read)
 
 -- expr [ASC|DESC]
 abbrev pub IsIndexed : List ℕ → (Expr → Type 0) → Indexed → Type 0
@@ -202,12 +150,12 @@ IsColumnCons text n (ColumnCons'.References x) = IsReferences text x
 IsColumnCons text n (ColumnCons'.Generated generated as_word expr storage) =
     IfSome generated (AreFixed text K.Generated K.Always) × IsFixed text K.As as_word
     × IsInParens text (IsExprAt text n) expr
-    × IfSome storage (λ t. IsWord text (codes "stored") t ⊎ IsFixed text K.Virtual t)
+    × IfSome storage (λ t. IsSpelledWord text (codes "stored") t ⊎ IsFixed text K.Virtual t)
 
 -- name [type] {column-cons}
 abbrev pub IsColumn : List ℕ → ℕ → Column → Type 0
 IsColumn text n x =
-    IsName text x.name × IfSome x.column_type (IsColumnType text) × All (IsColumnCons text n) x.constraints
+    IsName text x.name × IfSome x.column_type (IsColumnType text) × AllByRecursion (IsColumnCons text n) x.constraints
 
 -- CONSTRAINT name | PRIMARY KEY "(" indexeds [AUTOINCREMENT] ")" [conflict] | UNIQUE "(" indexeds ")" [conflict]
 -- | CHECK "(" expr ")" [conflict] | FOREIGN KEY "(" names ")" references
@@ -229,7 +177,7 @@ IsTableCons text n (TableCons'.ForeignKey foreign key names references) =
 abbrev pub AreTableConstraints : List ℕ → ℕ → TableConstraints → Type 0
 AreTableConstraints text n x =
     IsSign text (codes ",") x.comma × IsTableCons text n x.first
-    × All (λ next. IfSome next.comma (IsSign text (codes ",")) × IsTableCons text n next.constraint) x.more
+    × AllByRecursion (λ next. IfSome next.comma (IsSign text (codes ",")) × IsTableCons text n next.constraint) x.more
 
 -- columns ["," table-cons {[","] table-cons}]
 abbrev pub IsTableBody : List ℕ → ℕ → TableBody → Type 0
@@ -290,30 +238,6 @@ IsUpsert text n x =
     IsFixed text K.On x.on × IsFixed text K.Conflict x.conflict × IfSome x.target (IsUpsertTarget text n)
     × IsFixed text K.Do x.do_word × IsUpsertAction text n x.action
 
--- the last arm
-abbrev pub last_arm : Arm → List CompoundArm → Arm
-last_arm arm [] = arm
-last_arm arm (next ∷ more) = last_arm (out-CompoundArm next).arm more
-
--- the sources end in a joined source without a constraint
-abbrev pub EndInJoined : Sources → Type 0
-EndInJoined x =
-    (before : List JoinedSource) × (last : JoinedSource)
-    × ((out-Sources x).more ≡ before ++ last ∷ []) × ((out-JoinedSource last).constraint ≡ None)
-
--- the arm ends in a joined source without a constraint
-abbrev pub ArmEndsInJoined : OpenArm → Type 0
-ArmEndsInJoined (Arm-F.Values values rows) = ⊥
-ArmEndsInJoined (Arm-F.Select x) =
-    IsSomeAnd (out-SelectArm x).from (λ from. EndInJoined from.part) × ((out-SelectArm x).filter ≡ None)
-    × ((out-SelectArm x).group ≡ None) × ((out-SelectArm x).having ≡ None) × ((out-SelectArm x).windows ≡ None)
-
--- the select ends in a joined source without a constraint, so that an ON behind it would be the constraint
-abbrev pub TakesOn : Select → Type 0
-TakesOn x =
-    ArmEndsInJoined (out-Arm (last_arm (out-Select x).arm (out-Select x).compounds))
-    × ((out-Select x).order ≡ None) × ((out-Select x).limit ≡ None)
-
 -- INSERT [or] | REPLACE
 abbrev pub IsInsertVerb : List ℕ → InsertVerb → Type 0
 IsInsertVerb text (InsertVerb'.Insert insert or) = IsFixed text K.Insert insert × IfSome or (IsOrAction text)
@@ -323,7 +247,7 @@ IsInsertVerb text (InsertVerb'.Replace t) = IsFixed text K.Replace t
 abbrev pub IsInsert : List ℕ → ℕ → Insert → Type 0
 IsInsert text n x =
     IsInsertVerb text x.verb × IsFixed text K.Into x.into × IsName text x.name × IfSome x.columns (AreNames text)
-    × IsSelectAt text n x.select × All (IsUpsert text n) x.upserts × (x.upserts ≢ [] → TakesOn x.select → ⊥)
+    × IsSelectAt text n x.select × AllByRecursion (IsUpsert text n) x.upserts × (IsTrue (ends_in_joined x.select) → x.upserts ≡ [])
 
 -- UPDATE [or] name SET sets [FROM sources] [WHERE expr]
 abbrev pub IsUpdate : List ℕ → ℕ → Update → Type 0
@@ -378,7 +302,7 @@ abbrev pub IsCreateTrigger : List ℕ → ℕ → CreateTrigger → Type 0
 IsCreateTrigger text n x =
     IsFixed text K.Create x.create × IsFixed text K.Trigger x.trigger × IfSome x.if_not_exists (IsIfNotExists text)
     × IsName text x.name × IsTriggerHead text n x.head × IsFixed text K.Begin x.begin × IsEndedStatement text n x.first
-    × All (IsEndedStatement text n) x.more × IsFixed text K.End x.end
+    × AllByRecursion (IsEndedStatement text n) x.more × IsFixed text K.End x.end
 
 -- The tree is one of its rule, at some height of its expressions and selects, and spells the tokens of the text.
 

@@ -2,10 +2,9 @@
 
 ghost use Rattle.std.specs.Prelude.{◌≡◌, ℕ, [], length, reverse, take, IfOk, IfSome, OnOk};
 ghost use Rattle.std.specs.Option.{option_map};
-ghost use Rattle.sql_token.specs.Token.{span};
 ghost use Rattle.sql_tree.specs.Nesting.{FirstTooDeep, IsFoundAt, around, closed, effect_of, effect_of_sign, effect_of_word, ended, turned};
 
-use sql_token::{Token, TokenKind, same_name};
+use sql_token::{Token, TokenKind, bytes_of, same_name};
 use std::alloc::{AllocError, Global};
 use std::marker::Model;
 
@@ -28,17 +27,6 @@ enum Effect {
     /// Ends a CASE.
     Ends,
     Keeps,
-}
-
-/// The token's bytes, as far as the text has them.
-fn bytes_of<'a>(text: &'a [u8], token: &Token) -> &'a [u8]
-    ensures { result.now ≡ span text.now token.now }
-{
-    let Some(from) = text.get(token.start..) else {
-        return &[];
-    };
-    let length = token.end.saturating_sub(token.start).min(from.len());
-    &from[..length]
 }
 
 #[tactic(auto, unfolding(crate::specs::Nesting::effect_of))]

@@ -4,8 +4,8 @@
 #[cfg(test)]
 mod nesting;
 #[cfg(test)]
-mod rows;
-#[cfg(test)]
 mod several;
 #[cfg(test)]
 mod tests;
+#[cfg(test)]
+mod trees;

@@ -1,9 +1,8 @@
-use Rattle.std.proofs.Common.{◌≡◌, ◌++◌, drop}
+use Rattle.std.proofs.Common.{◌≡◌, ◌++◌, take}
 use Rattle.sql_expr.specs.Tokens.{flat}
 use Rattle.sql_expr.proofs.spelled.ItemsSpelled.spell.Given as goal
 
--- what was added and what the items yet to come spell is what all spell
+-- what the items so far spell was added
 abbrev pub invariant-loop-item : goal.invariant-loop-item
 invariant-loop-item g l =
-    l.tokens.items ++ flat g.T.Spelled.spelled (drop l.item-index l.item-items)
-    ≡ l.fn.tokens.items ++ flat g.T.Spelled.spelled l.item-items
+    l.tokens.items ≡ l.fn.tokens.items ++ flat g.T.Spelled.spelled (take l.item-index l.item-items)
