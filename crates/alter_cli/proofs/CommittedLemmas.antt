@@ -1,9 +1,8 @@
 -- What a committed change makes of a header.
-use Rattle.std.proofs.Common.{◌≡◌, ◌<◌, ◌≤◌, ℕ, ◌+◌, ◌-◌, ◌*◌, ◌/◌, ◌^◌, ◌==◌, max, true, not, ◌⊎◌, inl, inr, if◌then◌else◌, List, ◌++◌, length, take, drop, slice_index, sym, ◌∙◌, ap, ap₂, subst, arith}
+use Rattle.std.proofs.Common.{◌≡◌, ◌<◌, ◌≤◌, ℕ, ◌+◌, ◌-◌, ◌*◌, ◌/◌, ◌^◌, ◌==◌, max, true, not, inl, inr, if◌then◌else◌, List, length, take, drop, slice_index, sym, ◌∙◌, ap, ap₂, subst, arith}
 use Rattle.std.proofs.lemmas.Bool.{and_from, cond-true, eq-eqb, ne_eqb, not_from_false}
-use Rattle.std.proofs.lemmas.List.{drop-take, get_or-drop, get_or-take, length-take-le}
-use Rattle.byteorder.specs.Endian.{big_bytes, big_number}
-use Rattle.byteorder.specs.Numbers.{big_from-take}
+use Rattle.std.proofs.lemmas.List.{length-take-le}
+use Rattle.byteorder.specs.Endian.{big_bytes}
 use Rattle.alter_bytes.proofs.Fields.{IsApart, big_number_inside, length-big_bytes, length-overlaid, number-overlaid, part-overlaid, same_byte, same_number}
 use Rattle.alter_cli.specs.Header.{IsHeader, HasFixedBytes, HasServedFields, committed, has_page_count, is_page_size, next, number_at, page_count, page_size, put, usable_size}
 

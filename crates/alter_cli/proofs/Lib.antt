@@ -3,6 +3,7 @@ pub mod CauseLemmas
 pub mod CommittedLemmas
 pub mod FileLemmas
 pub mod FinishLemmas
+pub mod FirstRun
 pub mod FormLemmas
 pub mod FrontLemmas
 pub mod Gave

@@ -1,5 +1,5 @@
 -- A form stays ready.
-use Rattle.std.proofs.Common.{◌≡◌, ◌≤◌, ℕ, ◌+◌, ◌-◌, Bool, true, false, ◌&&◌, if◌then◌else◌, nat_le, List, [], ◌∷◌, ◌++◌, length, take, drop, Option, Some, None, codes, refl, sym, ◌∙◌, ap, subst, arith, length-append, length-drop}
+use Rattle.std.proofs.Common.{◌≡◌, ◌≤◌, ℕ, ◌+◌, ◌-◌, Bool, true, false, if◌then◌else◌, nat_le, List, [], ◌∷◌, ◌++◌, length, take, drop, codes, sym, ◌∙◌, ap, subst, arith, length-append, length-drop}
 use Rattle.std.proofs.lemmas.Bool.{and_parts}
 use Rattle.std.proofs.lemmas.Bool.Decides.{nat_tests}
 use Rattle.std.proofs.lemmas.List.{length-take-le}
@@ -11,10 +11,9 @@ use Rattle.alter_cli.specs.declared.form.Form.{Form}
 use Rattle.alter_cli.specs.declared.table.Table.{Table}
 use Rattle.alter_cli.specs.declared.plan.Plan.{Plan}
 use Rattle.alter_cli.specs.declared.plan.Plan.TheVariants as plans
-use Rattle.alter_cli.specs.declared.verdict.Refusal.TheVariants.{ColumnTaken, TooManyColumns, Unbuilt}
 use Rattle.alter_cli.specs.FirstForm.{AreApart, rows_of}
 use Rattle.alter_cli.specs.Sizes.{AreSound}
-use Rattle.alter_cli.specs.Step.{added, after, are_local, has_column, is_built, is_named, refusal_at, with_column}
+use Rattle.alter_cli.specs.Step.{added, after, are_local, is_named, with_column}
 use Rattle.alter_cli.specs.Served.{IsReady, IsReadyTable}
 use Rattle.alter_cli.specs.Plan.{IsTaken, KeepsExtent, Plans}
 use Rattle.alter_cli.proofs.Retold.{apart_after}

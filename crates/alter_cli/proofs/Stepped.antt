@@ -1,5 +1,5 @@
 -- One command on an image, by the form of the image.
-use Rattle.std.proofs.Common.{◌≡◌, ℕ, Bool, true, false, nat_le, if◌then◌else◌, Option, Some, None, List, ◌++◌, ◌*◌, length, map, take, drop, refl, sym, ◌∙◌, ap, ap₂, subst}
+use Rattle.std.proofs.Common.{◌≡◌, ℕ, true, Option, Some, None, List, ◌++◌, ◌*◌, length, map, take, drop, refl, sym, ◌∙◌, ap, ap₂, subst}
 use Rattle.std.specs.List.{find}
 use Rattle.alter_disk.specs.Files.{Files}
 use Rattle.page_cells.specs.declared.kind.Kind.TheVariants.{TableLeaf}
@@ -9,9 +9,7 @@ use Rattle.plain_sql.specs.declared.script.Command.{Command}
 use Rattle.schema_rows.specs.declared.schema.SchemaRow.{SchemaRow}
 use Rattle.schema_rows.specs.Schema.{row_cell}
 use Rattle.alter_cli.specs.declared.form.Form.{Form}
-use Rattle.alter_cli.specs.declared.table.Table.{Table}
 use Rattle.alter_cli.specs.declared.verdict.Refusal.{Refusal}
-use Rattle.alter_cli.specs.declared.verdict.Refusal.TheVariants.{ColumnTaken, TooManyColumns, Unbuilt}
 use Rattle.alter_cli.specs.declared.verdict.Verdict.{Verdict}
 use Rattle.alter_cli.specs.declared.verdict.Verdict.TheVariants.{Done, Refused}
 use Rattle.alter_cli.specs.Carried.{left_by}
@@ -20,7 +18,7 @@ use Rattle.alter_cli.specs.Header.{committed, page_size, usable_size}
 use Rattle.alter_cli.specs.Image.{Image}
 use Rattle.alter_cli.specs.Plan.{Advances, IsAdvanced, new_page, verdict_on}
 use Rattle.alter_cli.specs.Served.{IsFormOf}
-use Rattle.alter_cli.specs.Step.{Step, after, has_column, is_built, is_named, refusal_at, refusal_of, verdict_from}
+use Rattle.alter_cli.specs.Step.{Step, after, is_built, is_named, refusal_of, verdict_from}
 use Rattle.alter_cli.proofs.Added.{added, files_after, is_new_page, is_sound, new_image}
 use Rattle.alter_cli.proofs.Added as done
 use Rattle.alter_cli.proofs.Held.{have_room}

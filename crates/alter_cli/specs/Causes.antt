@@ -1,5 +1,5 @@
 -- When each status comes, and what a call that is run to its end leaves.
-use Rattle.std.specs.Prelude.{Option, ◌≡◌, ◌⊎◌, ◌≤◌, ℕ, ◌+◌, Bool, true, false, List, [], ◌++◌, drop}
+use Rattle.std.specs.Prelude.{◌≡◌, ◌⊎◌, ◌≤◌, ℕ, ◌+◌, Bool, true, false, List, [], ◌++◌, drop}
 use Rattle.std.specs.List.{list_all}
 use Rattle.alter_disk.specs.Files.{Files}
 use Rattle.alter_disk.specs.Outside.{Rises}

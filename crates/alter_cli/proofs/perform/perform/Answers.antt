@@ -1,6 +1,6 @@
 use Rattle.std.proofs.Common.{◌∙◌, ℕ, List, arith, subst}
 use Rattle.alter_disk.specs.Faults.{Rose}
-use Rattle.alter_disk.specs.Outside.{Outside, Rises, Span, rises, span}
+use Rattle.alter_disk.specs.Outside.{rises, span}
 use Rattle.plain_sql.specs.declared.script.Command.{Command}
 use Rattle.alter_cli.specs.Opens.{first_rules}
 use Rattle.alter_cli.specs.Served.{IsFormOf}
