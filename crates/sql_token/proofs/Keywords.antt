@@ -1,9 +1,8 @@
 -- The table of keywords: each entry has its keyword's spelling, and each keyword has an entry.
-use Rattle.std.proofs.Common.{◌≡◌, ℕ, Bool, true, List, [], ◌∷◌, ⊎_elim, Option, Some, None, map, nat_eq, refl, sym, ap, ◌∙◌}
-use Rattle.std.specs.Prelude.{IfSome, IfNone}
-use Rattle.std.proofs.lemmas.Bool.{and_parts, cond-true, cond-false, cases_Bool, false_from_ne_true}
+use Rattle.std.proofs.Common.{◌≡◌, ℕ, Bool, List, [], ◌∷◌, ⊎_elim, Option, Some, None, nat_eq, refl, sym, ap, ◌∙◌}
+use Rattle.std.specs.Prelude.{IfSome}
+use Rattle.std.proofs.lemmas.Bool.{cond-true, cond-false, cases_Bool, false_from_ne_true}
 use Rattle.std.specs.Cmp.Lexicographic.{pointwise, bytes_decides}
-use Rattle.std.specs.List.{list_all}
 use Rattle.sql_token.specs.declared.keyword.Keyword.{Keyword}
 use Rattle.sql_token.specs.declared.keyword.Keyword.TheVariants.{Abort, Action, Add, After, All, Alter, Always, Analyze, And, As, Asc, Attach, AutoIncrement, Before, Begin, Between, By, Cascade, Case, Cast, Check, Collate, Column, Commit, Conflict, Constraint, Create, Cross, Current, CurrentDate, CurrentTime, CurrentTimestamp, Database, Default, Deferrable, Deferred, Delete, Desc, Detach, Distinct, Do, Drop, Each, Else, End, Escape, Except, Exclude, Exclusive, Exists, Explain, Fail, Filter, First, Following, For, Foreign, From, Full, Generated, Glob, Group, Groups, Having, If, Ignore, Immediate, In, Index, Indexed, Initially, Inner, Insert, Instead, Intersect, Into, Is, IsNull, Join, Key, Last, Left, Like, Limit, Match, Materialized, Natural, No, Not, Nothing, NotNull, Null, Nulls, Of, Offset, On, Or, Order, Others, Outer, Over, Partition, Plan, Pragma, Preceding, Primary, Query, Raise, Range, Rebuild, Recursive, References, Regexp, Reindex, Release, Rename, Replace, Restrict, Returning, Right, Rollback, Row, Rows, Savepoint, Select, Set, Table, Temp, Temporary, Then, Ties, To, Transaction, Trigger, Unbounded, Union, Unique, Update, Using, Vacuum, Values, View, Virtual, When, Where, Window, With, Without}
 use Rattle.sql_token.specs.declared.keyword.TheConstants.{KEYWORDS}

@@ -1,9 +1,9 @@
 -- A token at a place of a text, and the token in front of what stands from there on.
-use Rattle.std.proofs.Common.{◌≡◌, ℕ, ◌+◌, ◌-◌, ◌<◌, ◌≤◌, List, [], ◌∷◌, ◌++◌, ⊎_elim, Option, Some, None, length, take, drop, arith, refl, sym, ap, subst, ◌∙◌}
+use Rattle.std.proofs.Common.{◌≡◌, ℕ, ◌+◌, ◌-◌, ◌<◌, List, [], ◌∷◌, ◌++◌, ⊎_elim, Option, Some, None, length, take, drop, arith, refl, sym, ap, subst, ◌∙◌}
 use Rattle.std.specs.Char.{is_ascii_digit}
 use Rattle.std.specs.Prelude.{slice_range, IfNone}
 use Rattle.std.proofs.lemmas.Bool.{cond_both}
-use Rattle.std.proofs.lemmas.List.{length-append, length-drop, length-take-le, take-append-drop, drop-drop, drop_at, take_at, take_rest}
+use Rattle.std.proofs.lemmas.List.{length-append, length-drop, take-append-drop, drop-drop, take_rest}
 use Rattle.common_laws.proofs.Lists.{range_at, range_length, rest_at}
 use Rattle.sql_token.specs.declared.class.Class.{Class}
 use Rattle.sql_token.specs.declared.class.Class.TheVariants.{Letter, Digit, Point, Apostrophe, Sign, Bracket, Other}
