@@ -1,1 +1,4 @@
+pub mod Moments
 pub mod Overlays
+pub mod Pending
+pub mod Stopped

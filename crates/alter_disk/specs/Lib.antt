@@ -1,10 +1,14 @@
 pub mod Calls
 pub mod Changes
 pub mod Collected
+pub mod Crash
 pub mod Faults
 pub mod Files
+pub mod Fused
 pub mod Memory
+pub mod Moments
 pub mod Outside
+pub mod Pending
 pub mod Rest
 pub mod Untold
 pub mod Uses

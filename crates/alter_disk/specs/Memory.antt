@@ -1,16 +1,22 @@
 -- What contracts see of a `MemoryDisk`, and how each call changes it.
-use Rattle.std.specs.Prelude.{◌≤◌, ℕ, ◌+◌, nat_lt, nat_le, Bool, false, true, ◌||◌, not, if◌then◌else◌, List, length, take}
+use Rattle.std.specs.Prelude.{◌≡◌, ◌==◌, ◌<◌, ◌≤◌, ℕ, ◌+◌, nat_lt, nat_le, Bool, false, true, ◌||◌, not, if◌then◌else◌, List, [], ◌∷◌, length, take, Vec, vec_capacity}
 use Rattle.alter_disk.specs.declared.way.Way.{Way}
 use Rattle.alter_disk.specs.declared.way.Way.TheVariants.{Read, Write}
 use Rattle.alter_disk.specs.declared.which.Which.{Which}
 use Rattle.alter_disk.specs.Files.{Files, file, with_file}
 use Rattle.alter_disk.specs.Changes.{overwritten}
 use Rattle.alter_disk.specs.Calls.{raised, is_listed}
+use Rattle.alter_disk.specs.Pending.{Change, Call, Wrote, Cut, Synced, synced_file, filled_file}
+use Rattle.std.specs.declared.alloc.Global.{Global}
 
 pub record Memory : Type 0 where
   -- the one name that it takes
   pub name : List ℕ
   pub files : Files
+  -- what they were at first
+  pub first : Files
+  -- each call since that changed what a crash may leave, the newest first
+  pub steps : List Call
   -- how many bytes a file can hold
   pub room : ℕ
   -- how many calls its record can hold
@@ -29,6 +35,8 @@ abbrev pub fresh : List ℕ → Files → ℕ → ℕ → List ℕ → Memory
 fresh name files room calls fails = record {
   name = name;
   files = files;
+  first = files;
+  steps = [];
   room = room;
   calls = calls;
   made = 0;
@@ -64,18 +72,59 @@ after_call way m = counted way (refuses m) m
 abbrev pub with_bytes : Which → List ℕ → Memory → Memory
 with_bytes which bytes m = record m { files = with_file which bytes m.files }
 
+-- the disk with one more call in its record
+abbrev pub noted : Which → Change → Memory → Memory
+noted which change m = record m { steps = record { which = which; change = change } ∷ m.steps }
+
 -- the disk after a write, which changes no file where it failed
 abbrev pub after_write : Which → ℕ → List ℕ → Memory → Memory
 after_write which at piece m =
     let failed = refuses_write at (length piece) m in
-    if failed then counted Write failed m else with_bytes which (overwritten (file which m.files) at piece) (counted Write failed m)
+    if failed
+    then counted Write failed m
+    else noted which (Wrote at (at + length piece)) (with_bytes which (overwritten (file which m.files) at piece) (counted Write failed m))
 
 -- the disk after a cut, which changes no file where it failed
 abbrev pub after_cut : Which → ℕ → Memory → Memory
 after_cut which len m =
-    if refuses m then counted Write true m else with_bytes which (take len (file which m.files)) (counted Write false m)
+    if refuses m
+    then counted Write true m
+    else noted which (Cut len) (with_bytes which (take len (file which m.files)) (counted Write false m))
+
+-- the disk after a sync
+abbrev pub after_sync : Which → Memory → Memory
+after_sync which m =
+    if refuses m then counted Write true m else noted which (Synced (file which m.files)) (counted Write false m)
+
+-- one file as a crash may leave it, of which the choices 0 to 3 stand for the last sync, what a read gives, and zeros or d9 in all that is pending
+abbrev pub stopped_file : ℕ → Which → Memory → List ℕ
+stopped_file choice which m =
+    if choice == 0 then synced_file which (file which m.first) m.steps
+    else if choice == 1 then file which m.files
+    else filled_file (if choice == 2 then 0 else 0xd9) which (file which m.first) m.steps
 
 -- a buffer's bytes are within the room, which is reserved
 pub record IsReserved (room size capacity : ℕ) : Type 0 where
   pub within : size ≤ room
   pub reserved : room ≤ capacity
+
+-- the record of calls has room for all that are not made yet
+pub record HoldsCalls (calls made : ℕ) (steps : List Call) (size spare capacity : ℕ) : Type 0 where
+  pub behind : length steps ≤ made
+  pub same : length steps ≡ size
+  pub spare_left : calls ≤ length steps + spare
+  pub reserved : calls ≤ capacity
+
+-- there is room for one call more
+abbrev pub HasSlot : Memory → Type 0
+HasSlot m = (length m.steps < m.calls) × (length m.steps < m.made)
+
+-- two files, of which each can hold so many bytes
+pub record Held : Type 0 where
+  pub files : Files
+  pub room : ℕ
+
+-- an empty buffer that has room for a file's bytes
+pub record IsSpare (room : ℕ) (buffer : Vec ℕ Global) : Type 0 where
+  pub empty : buffer.items ≡ []
+  pub reserved : room ≤ vec_capacity buffer

@@ -1,7 +1,8 @@
 //! The disk as the pager sees it.
-ghost use Rattle.std.specs.Prelude.{◌≡◌, ◌⊎◌, ◌+◌, ◌^◌, ◌≤◌, ℕ, Bool, true, false, List, length, is_ok, IfSome, IsSomeAnd, IfOk, OnOk, OnErr, Option};
+ghost use Rattle.std.specs.Prelude.{◌≡◌, ◌⊎◌, ◌+◌, ◌^◌, ◌≤◌, ℕ, Bool, true, false, List, length, is_ok, IfSome, IsSome, IsSomeAnd, IfOk, OnOk, OnErr, Option};
 ghost use Rattle.alter_disk.specs.Files.{Files, file};
-ghost use Rattle.alter_disk.specs.Changes.{IfTold, ReadsAt, Written, TornIn, CutTo, CutIn};
+ghost use Rattle.alter_disk.specs.Changes.{IfTold, ReadsAt, Written, Torn, TornIn, CutTo, CutShort, CutIn, ChangesOne};
+ghost use Rattle.alter_disk.specs.Crash.{After, NoMore, Elapses};
 ghost use Rattle.alter_disk.specs.Faults.{HasCause, HasOpenCause};
 ghost use Rattle.alter_disk.specs.Rest.{KeepsRest};
 
@@ -23,6 +24,15 @@ pub trait Disk: Drop {
     /// The bytes of both files as a read gives them, where it tells them.
     ghost files: { Self → Option Files };
 
+    /// What a crash now may leave of both files.
+    ghost may_leave: { Self → Files → Type 0 };
+
+    /// The moment by the disk's own clock, a number that never falls.
+    ghost moment: { Self → ℕ };
+
+    /// What a crash at some moment from that one on may have left, in a call or between two.
+    ghost left_since: { Self → ℕ → Files → Type 0 };
+
     /// How often a call of `open`, `len` or `read` has failed.
     ghost read_faults: { Self → ℕ };
 
@@ -39,7 +49,9 @@ pub trait Disk: Drop {
         ensures files { files self.new ≡ files self.old }
         ensures label { label self.new ≡ label self.old }
         ensures cause { HasOpenCause (read_faults self.old) (read_faults self.new) result }
-        ensures other { write_faults self.new ≡ write_faults self.old };
+        ensures other { write_faults self.new ≡ write_faults self.old }
+        ensures crash { NoMore (may_leave self.old) (may_leave self.new) }
+        ensures time { Elapses (moment self.old) (moment self.new) (left_since self.old) (left_since self.new) (may_leave self.new) };
 
     /// The length of a file.
     fn len(&mut self, which: Which) -> Result<u64, Failed>
@@ -47,7 +59,9 @@ pub trait Disk: Drop {
         ensures len { IfOk result (λ n. IfTold (files self.old) (λ f. n ≡ length (file which f))) }
         ensures files { files self.new ≡ files self.old }
         ensures rest { KeepsRest label called opened write_faults self.old self.new }
-        ensures cause { HasCause (read_faults self.old) (read_faults self.new) result };
+        ensures cause { HasCause (read_faults self.old) (read_faults self.new) result }
+        ensures crash { NoMore (may_leave self.old) (may_leave self.new) }
+        ensures time { Elapses (moment self.old) (moment self.new) (left_since self.old) (left_since self.new) (may_leave self.new) };
 
     /// Reads from `at` on, and answers how many bytes came: fewer than asked only at the file's end.
     /// After a fault the buffer may hold anything.
@@ -58,7 +72,9 @@ pub trait Disk: Drop {
         ensures read { IfOk result (λ n. IfTold (files self.old) (λ f. ReadsAt (file which f) at n buf.old buf.new)) }
         ensures files { files self.new ≡ files self.old }
         ensures rest { KeepsRest label called opened write_faults self.old self.new }
-        ensures cause { HasCause (read_faults self.old) (read_faults self.new) result };
+        ensures cause { HasCause (read_faults self.old) (read_faults self.new) result }
+        ensures crash { NoMore (may_leave self.old) (may_leave self.new) }
+        ensures time { Elapses (moment self.old) (moment self.new) (left_since self.old) (left_since self.new) (may_leave self.new) };
 
     /// Writes over what is there and past the end. Between the old end and `at` there are zeros then, also
     /// where the piece is empty.
@@ -68,7 +84,9 @@ pub trait Disk: Drop {
         ensures written { OnOk result (Written which at bytes.now (files self.old) (files self.new)) }
         ensures torn { OnErr result (TornIn which at (length bytes.now) (files self.old) (files self.new)) }
         ensures rest { KeepsRest label called opened read_faults self.old self.new }
-        ensures cause { HasCause (write_faults self.old) (write_faults self.new) result };
+        ensures cause { HasCause (write_faults self.old) (write_faults self.new) result }
+        ensures crash { (c : Files) → may_leave self.new c → After (ChangesOne which (Torn at (length bytes.now))) (may_leave self.old) c }
+        ensures time { Elapses (moment self.old) (moment self.new) (left_since self.old) (left_since self.new) (may_leave self.new) };
 
     /// Shortens a file to `len` bytes.
     fn cut(&mut self, which: Which, len: u64) -> Result<(), Failed>
@@ -77,12 +95,26 @@ pub trait Disk: Drop {
         ensures cut { OnOk result (CutTo which len (files self.old) (files self.new)) }
         ensures torn { OnErr result (CutIn which len (files self.old) (files self.new)) }
         ensures rest { KeepsRest label called opened read_faults self.old self.new }
-        ensures cause { HasCause (write_faults self.old) (write_faults self.new) result };
+        ensures cause { HasCause (write_faults self.old) (write_faults self.new) result }
+        ensures crash { (c : Files) → may_leave self.new c → After (ChangesOne which (CutShort len)) (may_leave self.old) c }
+        ensures time { Elapses (moment self.old) (moment self.new) (left_since self.old) (left_since self.new) (may_leave self.new) };
 
     /// Makes durable what a read gives of this file.
     fn sync(&mut self, which: Which) -> Result<(), Failed>
         requires { called self.old ≡ true }
         ensures files { files self.new ≡ files self.old }
         ensures rest { KeepsRest label called opened read_faults self.old self.new }
-        ensures cause { HasCause (write_faults self.old) (write_faults self.new) result };
+        ensures cause { HasCause (write_faults self.old) (write_faults self.new) result }
+        ensures durable { OnOk result ((c : Files) → may_leave self.new c → IsSomeAnd (files self.new) (λ f. file which c ≡ file which f)) }
+        ensures crash { NoMore (may_leave self.old) (may_leave self.new) }
+        ensures time { Elapses (moment self.old) (moment self.new) (left_since self.old) (left_since self.new) (may_leave self.new) };
+
+    /// This moment is one of those since an earlier one.
+    ghost counts_now: { (d : Self) (t : ℕ) (c : Files) → t ≤ moment d → may_leave d c → left_since d t c };
+
+    /// Since this moment there is no other.
+    ghost only_now: { (d : Self) (c : Files) → left_since d (moment d) c → may_leave d c };
+
+    /// A disk that tells nothing of its bytes says nothing of crashes.
+    ghost tells: { (d : Self) (c : Files) → may_leave d c → IsSome (files d) };
 }

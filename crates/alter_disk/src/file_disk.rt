@@ -66,9 +66,21 @@ impl<R: Files<File = File> + AllocGlobal + Drop> Disk for FileDisk<R> {
 
     ghost files = { λ _. None };
 
+    ghost may_leave = { λ _ _. ⊥ };
+
+    ghost moment = { λ _. 0 };
+
+    ghost left_since = { λ _ _ _. ⊥ };
+
     ghost read_faults = { λ d. d.read_faults };
 
     ghost write_faults = { λ d. d.write_faults };
+
+    ghost counts_now = { λ _ _ _ _ left. left };
+
+    ghost only_now = { λ _ _ left. left };
+
+    ghost tells = { λ _ _ left. absurd left };
 
     fn open(&mut self, name: &str) -> Result<(), OpenFault> {
         self.was_called = true;

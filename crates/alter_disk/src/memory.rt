@@ -1,9 +1,14 @@
 //! A disk in memory, whose failures its maker chooses.
-ghost use Rattle.std.specs.Prelude.{◌≡◌, ◌+◌, ◌^◌, ◌≤◌, ◌||◌, false, Some, ◌-◌, ◌++◌, length, take, drop, replicate, is_err, vec_len, vec_capacity, string_bytes, IfOk, IfErr};
-ghost use Rattle.alter_disk.specs.Files.{file};
-ghost use Rattle.alter_disk.specs.Changes.{ReadsAt, overwritten};
-ghost use Rattle.alter_disk.specs.Memory.{Memory, IsReserved, fresh, refuses, refuses_write, counted, after_open, after_call, with_bytes, after_write, after_cut};
+ghost use Rattle.std.specs.Prelude.{◌≡◌, ◌+◌, ◌^◌, ◌<◌, ◌≤◌, ◌||◌, [], false, Some, ◌-◌, ◌++◌, length, take, drop, replicate, refl, is_err, vec_len, vec_capacity, string_bytes, IfOk, OnOk, IfErr};
+ghost use Rattle.alter_disk.specs.Files.{Files, file};
+ghost use Rattle.alter_disk.specs.Changes.{ReadsAt, Torn, CutShort, ChangesOne, overwritten};
+ghost use Rattle.std.specs.List.{AllByRecursion};
+ghost use Rattle.alter_disk.specs.Crash.{After, NoMore};
+ghost use Rattle.alter_disk.specs.Memory.{Memory, IsSpare, HoldsCalls, HasSlot, fresh, refuses, refuses_write, counted, after_open, after_call, with_bytes, noted, after_write, after_cut, after_sync, stopped_file};
+ghost use Rattle.alter_disk.specs.Pending.{Wrote, Cut, Synced, LeftOf, MayLeave, LeftSince, now_counts, only_now, newest_first, synced_file, filled_file};
 
+use crate::buffers::Buffers;
+use crate::call::{Call, Change, filled, keep, synced};
 use crate::copy::copy_front;
 use crate::fault::raise;
 use crate::{Disk, Failed, OpenFault, Way, Which};
@@ -12,14 +17,20 @@ use std::marker::Model;
 
 /// A disk whose files are two buffers of a fixed size. It takes no memory after `new`.
 ///
+/// It keeps what its files were at first and each call that changed what a crash may leave, so that it tells
+/// exactly what a crash may leave now and what it might have left at any moment before.
+///
 /// Its calls are numbered from 0. A call fails where its number is listed, where the record of calls is
 /// full, or where a write ends past the room. A call that fails changes neither file.
 #[derive(Drop)]
 pub struct MemoryDisk {
+    alloc: Global,
     name: String,
-    db: Vec<u8>,
-    journal: Vec<u8>,
-    room: usize,
+    first_db: Vec<u8>,
+    first_journal: Vec<u8>,
+    files: Buffers,
+    steps: Vec<Call>,
+    spare: Vec<Vec<u8>>,
     calls: usize,
     made: u64,
     fails: Vec<u64>,
@@ -34,8 +45,10 @@ impl Model for MemoryDisk {
 
     ghost view = { λ d. record {
       name = string_bytes d.name;
-      files = record { db = d.db.items; journal = d.journal.items };
-      room = d.room;
+      files = d.files.files;
+      first = record { db = d.first_db.items; journal = d.first_journal.items };
+      steps = newest_first d.steps.items;
+      room = d.files.room;
       calls = d.calls;
       made = d.made;
       fails = d.fails.items;
@@ -45,7 +58,9 @@ impl Model for MemoryDisk {
       write_faults = d.write_faults;
     } };
 
-    ghost invariant = { λ d. IsReserved d.room (vec_len d.db) (vec_capacity d.db) × IsReserved d.room (vec_len d.journal) (vec_capacity d.journal) };
+    ghost invariant = { λ d. HoldsCalls d.calls d.made (newest_first d.steps.items) (vec_len d.steps) (vec_len d.spare) (vec_capacity d.steps)
+        × AllByRecursion (IsSpare d.files.room) d.spare.items
+        × MayLeave (record { db = d.first_db.items; journal = d.first_journal.items }) (newest_first d.steps.items) d.files.files };
 }
 
 impl MemoryDisk {
@@ -65,10 +80,13 @@ impl MemoryDisk {
         ensures { IfOk result (λ disk. disk ≡ fresh name.now (record { db = db.now; journal = journal.now }) room calls fails.now) }
     {
         Ok(MemoryDisk {
+            alloc,
             name: String::from_str(alloc, name)?,
-            db: reserved(alloc, db, room)?,
-            journal: reserved(alloc, journal, room)?,
-            room,
+            first_db: Vec::from_slice(alloc, db)?,
+            first_journal: Vec::from_slice(alloc, journal)?,
+            files: Buffers::new(alloc, db, journal, room)?,
+            steps: Vec::with_capacity(alloc, calls)?,
+            spare: spares(alloc, room, calls)?,
             calls,
             made: 0,
             fails: Vec::from_slice(alloc, fails)?,
@@ -81,17 +99,78 @@ impl MemoryDisk {
 
     /// All bytes of a file.
     pub fn bytes(&self, which: Which) -> &[u8]
-        ensures { result.now ≡ file which self.now.files }
+        ensures bytes { result.now ≡ file which self.now.files }
+        ensures left { LeftOf which (file which self.now.first) self.now.steps result.now }
+    {
+        self.files.bytes(which)
+    }
+
+    /// Files that a crash now may leave: with the choice 0 what the last sync of each made durable, with 1
+    /// what a read gives, and with any other all that is pending filled with zeros (2) or with d9, at the
+    /// greatest length since then.
+    pub fn stopped(&self, choice: u8) -> Result<(Vec<u8>, Vec<u8>), AllocError>
+        ensures db { IfOk result (λ files. files.0.items ≡ stopped_file choice Which.Db self.now) }
+        ensures journal { IfOk result (λ files. files.1.items ≡ stopped_file choice Which.Journal self.now) }
+        ensures left { IfOk result (λ files. MayLeave self.now.first self.now.steps (record { db = files.0.items; journal = files.1.items })) }
+    {
+        Ok((
+            self.stopped_file(Which::Db, choice)?,
+            self.stopped_file(Which::Journal, choice)?,
+        ))
+    }
+
+    fn stopped_file(&self, which: Which, choice: u8) -> Result<Vec<u8>, AllocError>
+        ensures bytes { IfOk result (λ bytes. bytes.items ≡ stopped_file choice which self.now) }
+        ensures left { IfOk result (λ bytes. LeftOf which (file which self.now.first) self.now.steps bytes.items) }
+    {
+        let now = self.bytes(which);
+        self.chosen_file(which, choice, now)
+    }
+
+    /// The file of this choice, of which a read gives these bytes now.
+    fn chosen_file(&self, which: Which, choice: u8, now: &[u8]) -> Result<Vec<u8>, AllocError>
+        requires { now.now ≡ file which self.now.files }
+        ensures { IfOk result (λ bytes. bytes.items ≡ stopped_file choice which self.now) }
+    {
+        match choice {
+            0 => self.synced_file(which),
+            1 => Vec::from_slice(self.alloc, now),
+            2 => self.filled_file(which, 0),
+            _ => self.filled_file(which, 0xd9),
+        }
+    }
+
+    fn first_bytes(&self, which: Which) -> &[u8]
+        ensures { result.now ≡ file which self.now.first }
     {
         match which {
-            Which::Db => self.db.as_slice(),
-            Which::Journal => self.journal.as_slice(),
+            Which::Db => self.first_db.as_slice(),
+            Which::Journal => self.first_journal.as_slice(),
         }
+    }
+
+    fn synced_file(&self, which: Which) -> Result<Vec<u8>, AllocError>
+        ensures { IfOk result (λ bytes. bytes.items ≡ synced_file which (file which self.now.first) self.now.steps) }
+    {
+        synced(self.alloc, which, self.first_bytes(which), &self.steps)
+    }
+
+    fn filled_file(&self, which: Which, byte: u8) -> Result<Vec<u8>, AllocError>
+        ensures { IfOk result (λ bytes. bytes.items ≡ filled_file byte which (file which self.now.first) self.now.steps) }
+    {
+        filled(
+            self.alloc,
+            which,
+            self.first_bytes(which),
+            &self.steps,
+            byte,
+        )
     }
 
     /// Counts a call, and its fault where it fails: because it is `unfit`, or refused whatever it is.
     fn count(&mut self, way: Way, unfit: bool) -> Result<(), Failed>
         ensures outcome { is_err result ≡ (refuses self.old || unfit) }
+        ensures slot { OnOk result (HasSlot self.new) }
         ensures after { self.new ≡ counted way (refuses self.old || unfit) self.old }
     {
         let failed = self.fails.contains(&self.made) || self.calls as u64 <= self.made || unfit;
@@ -105,23 +184,35 @@ impl MemoryDisk {
         })
     }
 
+    /// Writes a piece, and keeps where it stands.
     fn overlay(&mut self, which: Which, at: usize, piece: &[u8])
-        requires { at + length piece.now ≤ self.old.room }
-        ensures { self.new ≡ with_bytes which (overwritten (file which self.old.files) at piece.now) self.old }
+        requires end { at + length piece.now < 2 ^ 64 }
+        requires room { at + length piece.now ≤ self.old.room }
+        requires slot { HasSlot self.old }
+        ensures { self.new ≡ noted which (Wrote at (at + length piece.now)) (with_bytes which (overwritten (file which self.old.files) at piece.now) self.old) }
     {
-        match which {
-            Which::Db => overlay(&mut self.db, at, piece),
-            Which::Journal => overlay(&mut self.journal, at, piece),
-        }
+        self.files.overlay(which, at, piece);
+        keep(&mut self.steps, which, Change::Wrote(at, at + piece.len()));
     }
 
+    /// Shortens a file, and keeps its new length.
     fn truncate(&mut self, which: Which, len: usize)
-        ensures { self.new ≡ with_bytes which (take len (file which self.old.files)) self.old }
+        requires { HasSlot self.old }
+        ensures { self.new ≡ noted which (Cut len) (with_bytes which (take len (file which self.old.files)) self.old) }
     {
-        match which {
-            Which::Db => self.db.truncate(len),
-            Which::Journal => self.journal.truncate(len),
-        }
+        self.files.truncate(which, len);
+        keep(&mut self.steps, which, Change::Cut(len));
+    }
+
+    /// Keeps what a read gives of a file as durable.
+    fn seal(&mut self, which: Which)
+        requires { HasSlot self.old }
+        ensures crash { NoMore (MayLeave self.old.first self.old.steps) (MayLeave self.new.first self.new.steps) }
+        ensures after { self.new ≡ noted which (Synced (file which self.old.files)) self.old }
+    {
+        let buffer = self.spare.pop().unwrap();
+        let synced = copied(buffer, self.files.bytes(which));
+        keep(&mut self.steps, which, Change::Synced(synced));
     }
 }
 
@@ -134,9 +225,21 @@ impl Disk for MemoryDisk {
 
     ghost files = { λ d. Some d.files };
 
+    ghost may_leave = { λ d. MayLeave d.first d.steps };
+
+    ghost moment = { λ d. length d.steps };
+
+    ghost left_since = { λ d. LeftSince d.first d.steps };
+
     ghost read_faults = { λ d. d.read_faults };
 
     ghost write_faults = { λ d. d.write_faults };
+
+    ghost counts_now = { λ d t c le now. now_counts d.first d.steps t c le now };
+
+    ghost only_now = { λ d c left. only_now d.first d.steps c left };
+
+    ghost tells = { λ d c left. refl };
 
     fn open(&mut self, name: &str) -> Result<(), OpenFault>
         requires first { self.old.called ≡ false }
@@ -170,20 +273,25 @@ impl Disk for MemoryDisk {
         Ok(copy_front(rest_from(self.bytes(which), at), buf))
     }
 
+    #[tactic(auto, using(crate::proofs::Pending::write_crash))]
     fn write(&mut self, which: Which, at: u64, bytes: &[u8]) -> Result<(), Failed>
         requires { at + length bytes.now ≤ 2 ^ 30 }
         ensures failed { is_err result ≡ refuses_write at (length bytes.now) self.old }
+        ensures crash { (c : Files) → MayLeave self.new.first self.new.steps c → After (ChangesOne which (Torn at (length bytes.now))) (MayLeave self.old.first self.old.steps) c }
         ensures after { self.new ≡ after_write which at bytes.now self.old }
     {
         let at = at as usize;
-        self.count(Way::Write, self.room < at + bytes.len())?;
+        let room = self.files.room();
+        self.count(Way::Write, room < at + bytes.len())?;
         self.overlay(which, at, bytes);
         Ok(())
     }
 
+    #[tactic(auto, using(crate::proofs::Pending::cut_crash))]
     fn cut(&mut self, which: Which, len: u64) -> Result<(), Failed>
         requires { len ≤ length (file which self.old.files) }
         ensures failed { is_err result ≡ refuses self.old }
+        ensures crash { (c : Files) → MayLeave self.new.first self.new.steps c → After (ChangesOne which (CutShort len)) (MayLeave self.old.first self.old.steps) c }
         ensures after { self.new ≡ after_cut which len self.old }
     {
         self.count(Way::Write, false)?;
@@ -193,49 +301,13 @@ impl Disk for MemoryDisk {
 
     fn sync(&mut self, which: Which) -> Result<(), Failed>
         ensures failed { is_err result ≡ refuses self.old }
-        ensures after { self.new ≡ after_call Way.Write self.old }
+        ensures crash { NoMore (MayLeave self.old.first self.old.steps) (MayLeave self.new.first self.new.steps) }
+        ensures after { self.new ≡ after_sync which self.old }
     {
-        self.count(Way::Write, false)
+        self.count(Way::Write, false)?;
+        self.seal(which);
+        Ok(())
     }
-}
-
-/// A buffer for `room` bytes that holds these.
-fn reserved(alloc: Global, bytes: &[u8], room: usize) -> Result<Vec<u8>, AllocError>
-    requires { length bytes.now ≤ room }
-    ensures items { IfOk result (λ v. v.items ≡ bytes.now) }
-    ensures room { IfOk result (λ v. room ≤ vec_capacity v) }
-{
-    let mut buffer = Vec::with_capacity(alloc, room)?;
-    buffer.extend_from_slice(bytes)?;
-    Ok(buffer)
-}
-
-/// Fills the buffer up with zeros to a length within what it has reserved.
-fn fill(buffer: &mut Vec<u8>, len: usize)
-    requires { len ≤ vec_capacity buffer.old }
-    ensures filled { buffer.new.items ≡ buffer.old.items ++ replicate (len - length buffer.old.items) 0 }
-    ensures room { vec_capacity buffer.old ≤ vec_capacity buffer.new }
-{
-    if buffer.len() < len {
-        buffer.resize(len, 0).unwrap();
-    }
-}
-
-fn write_at(bytes: &mut [u8], at: usize, piece: &[u8])
-    requires { at + length piece.now ≤ length bytes.old }
-    ensures { bytes.new ≡ take at bytes.old ++ piece.now ++ drop (at + length piece.now) bytes.old }
-{
-    bytes[at..at + piece.len()].copy_from_slice(piece);
-}
-
-/// Writes a piece within what the buffer has reserved.
-fn overlay(buffer: &mut Vec<u8>, at: usize, piece: &[u8])
-    requires { at + length piece.now ≤ vec_capacity buffer.old }
-    ensures written { buffer.new.items ≡ overwritten buffer.old.items at piece.now }
-    ensures room { vec_capacity buffer.old ≤ vec_capacity buffer.new }
-{
-    fill(buffer, at + piece.len());
-    write_at(buffer, at, piece);
 }
 
 /// What stands from a place on, which may lie past the end.
@@ -247,4 +319,26 @@ fn rest_from(bytes: &[u8], at: u64) -> &[u8]
     } else {
         &[]
     }
+}
+
+/// So many empty buffers of `room` bytes.
+fn spares(alloc: Global, room: usize, count: usize) -> Result<Vec<Vec<u8>>, AllocError>
+    ensures spare { IfOk result (λ v. AllByRecursion (IsSpare room) v.items) }
+    ensures count { IfOk result (λ v. vec_len v ≡ count) }
+{
+    let mut buffers = Vec::with_capacity(alloc, count)?;
+    for _ in 0..count {
+        buffers.push(Vec::with_capacity(alloc, room)?)?;
+    }
+    Ok(buffers)
+}
+
+/// Bytes put into an empty buffer that has room for them.
+fn copied(mut buffer: Vec<u8>, bytes: &[u8]) -> Vec<u8>
+    requires empty { buffer.items ≡ [] }
+    requires room { length bytes.now ≤ vec_capacity buffer }
+    ensures { result.items ≡ bytes.now }
+{
+    buffer.extend_from_slice(bytes).unwrap();
+    buffer
 }

@@ -2,7 +2,7 @@ use Rattle.std.proofs.Common.{◌≡◌, ◌∙◌, length, arith}
 use Rattle.std.proofs.lemmas.List.{take_at}
 use Rattle.std.proofs.lemmas.Grind.{common_steps}
 use Rattle.alter_disk.proofs.Overlays.{written_filled}
-use Rattle.alter_disk.proofs.memory.overlay.Goals as goal
+use Rattle.alter_disk.proofs.buffers.overlay.Goals as goal
 
 pub returns-clause-written : goal.returns-clause-written
 returns-clause-written c =

@@ -1,0 +1,42 @@
+-- What a crash may leave at each moment of several calls of a disk, at a bound `D: Disk`.
+use Rattle.std.specs.Prelude.{◌≡◌, ◌⊎◌, ◌≤◌, ℕ, List, Result, IsErrOf}
+use Rattle.alter_disk.specs.declared.way.Way.{Way}
+use Rattle.alter_disk.specs.declared.way.Way.TheVariants.{Read, Write}
+use Rattle.alter_disk.specs.declared.which.Which.{Which}
+use Rattle.alter_disk.specs.declared.disk.Disk.{Ghosts}
+use Rattle.alter_disk.specs.Files.{Files, file, other_of}
+use Rattle.alter_disk.specs.Changes.{IfTold, ChangesOne}
+use Rattle.alter_disk.specs.Crash.{After, NoMore}
+use Rattle.alter_disk.specs.Rest.{KeepsRest}
+use Rattle.alter_disk.specs.Uses.{OnlyReads, ReadFailed, WriteFailed}
+
+-- a crash at any moment between two states leaves what it might have left before the first, or files of which P holds
+pub record Leaves {D : Type 0} (disk : Ghosts D) (old new : D) (P : Files → Type 0) : Type 0 where
+  pub later : disk.moment old ≤ disk.moment new
+  pub before : (t : ℕ) (c : Files) → t ≤ disk.moment old → disk.left_since new t c → disk.left_since old t c ⊎ P c
+
+-- a read gives these bytes of a file, where they are told
+abbrev pub Reads : {D : Type 0} → Ghosts D → Which → List ℕ → D → Type 0
+Reads disk which bytes d = IfTold (disk.files d) (λ f. file which f ≡ bytes)
+
+-- a read gives these bytes of a file, and so does each crash now
+pub record Rests {D : Type 0} (disk : Ghosts D) (which : Which) (bytes : List ℕ) (d : D) : Type 0 where
+  pub reads : Reads disk which bytes d
+  pub crash : (c : Files) → disk.may_leave d c → file which c ≡ bytes
+
+-- calls that changed one file so, or were cut short in it: where the other one rested, it rests
+pub record ChangesFile {D : Type 0} (disk : Ghosts D) (which : Which) (Change : List ℕ → List ℕ → Type 0) (old new : D) : Type 0 where
+  pub other : (b : List ℕ) → Rests disk (other_of which) b old → Rests disk (other_of which) b new
+  pub follows : (c : Files) → disk.may_leave new c → After (ChangesOne which Change) (disk.may_leave old) c
+  pub stops : Leaves disk old new (After (ChangesOne which Change) (disk.may_leave old))
+
+-- calls that only read, at whose moments a crash leaves no more than before
+pub record ReadsQuietly {D : Type 0} (disk : Ghosts D) (old new : D) : Type 0 where
+  pub only : OnlyReads disk old new
+  pub crash : NoMore (disk.may_leave old) (disk.may_leave new)
+  pub stops : Leaves disk old new (disk.may_leave old)
+
+-- a failure that names its kind comes where a call of that kind failed
+pub record HasWay {D T : Type 0} (disk : Ghosts D) (old new : D) (result : Result T Way) : Type 0 where
+  pub reading : IsErrOf result Read → ReadFailed disk old new
+  pub writing : IsErrOf result Write → WriteFailed disk old new
