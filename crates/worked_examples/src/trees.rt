@@ -88,7 +88,7 @@ fn a_table(alloc: Global) -> Result<bool, Fail> {
         options: None,
     };
     let all = tree.flatten(alloc)?;
-    Ok(list.as_slice() == &[a] && all.as_slice() == &leaves)
+    Ok(list.as_slice() == [a].as_slice() && all.as_slice() == leaves.as_slice())
 }
 
 fn an_index(alloc: Global) -> Result<bool, Fail> {
@@ -112,7 +112,7 @@ fn an_index(alloc: Global) -> Result<bool, Fail> {
         filter: None,
     };
     let all = tree.flatten(alloc)?;
-    Ok(list.as_slice() == &[a] && all.as_slice() == &leaves)
+    Ok(list.as_slice() == [a].as_slice() && all.as_slice() == leaves.as_slice())
 }
 
 fn a_view(alloc: Global) -> Result<bool, Fail> {
@@ -130,7 +130,10 @@ fn a_view(alloc: Global) -> Result<bool, Fail> {
         select,
     };
     let all = tree.flatten(alloc)?;
-    Ok(list.as_slice() == &[word, opening, one, closing] && all.as_slice() == &leaves)
+    Ok(
+        list.as_slice() == [word, opening, one, closing].as_slice()
+            && all.as_slice() == leaves.as_slice(),
+    )
 }
 
 /// `DELETE ON table`
@@ -183,7 +186,7 @@ fn a_trigger(alloc: Global) -> Result<bool, Fail> {
         end,
     };
     let all = tree.flatten(alloc)?;
-    Ok(all.as_slice() == &leaves)
+    Ok(all.as_slice() == leaves.as_slice())
 }
 
 #[test]
