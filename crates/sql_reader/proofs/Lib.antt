@@ -1,0 +1,13 @@
+pub mod Behind
+pub mod Choices
+pub mod Forms
+pub mod Laws
+pub mod Leaves
+pub mod Looks
+pub mod Numbers
+pub mod Outcomes
+pub mod SortTests
+pub mod Sorts
+pub mod TokenSorts
+pub mod Words
+pub mod Turns
