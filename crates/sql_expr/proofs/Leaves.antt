@@ -1,5 +1,5 @@
 -- Laws of leaves: one of some fixed words, and none of them.
-use Rattle.std.proofs.Common.{◌≡◌, ◌+◌, ◌<◌, ℕ, suc, List, [], ◌∷◌, inl, inr, ◌⊎◌, length, drop, get_or, sym, ap, subst, ◌∙◌, drop-cons, add-one}
+use Rattle.std.proofs.Common.{◌≡◌, ◌+◌, ◌<◌, ℕ, suc, List, [], ◌∷◌, inl, inr, length, drop, get_or, sym, ap, subst, drop-cons, add-one}
 use Rattle.sql_token.specs.declared.token.Token.{Token}
 use Rattle.sql_token.specs.declared.keyword.Keyword.{Keyword}
 use Rattle.sql_token.specs.Fixed.{IsFixed}

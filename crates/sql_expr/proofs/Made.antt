@@ -1,5 +1,5 @@
 -- A tree that is made of parts is of its rule where its parts are, and the other way round.
-use Rattle.std.proofs.Common.{◌≡◌, ◌++◌, ℕ, List, [], ◌∷◌, refl, sym, ap, subst, ◌∙◌}
+use Rattle.std.proofs.Common.{◌≡◌, ℕ, List, [], sym, subst, ◌∙◌}
 use Rattle.std.specs.List.{AllByRecursion}
 use Rattle.std.proofs.lemmas.List.{append-nil}
 use Rattle.sql_token.specs.declared.token.Token.{Token}
@@ -9,7 +9,7 @@ use Rattle.sql_expr.specs.Tree.{expr_tokens, part_tokens, select_tokens, operand
 use Rattle.sql_expr.proofs.Opened.{made_expr, made_part, made_operand}
 use Rattle.sql_expr.specs.declared.operators.Infix.{Infix}
 use Rattle.sql_expr.specs.declared.expr.Expr.{Expr, roll-Expr, out-Expr, out-roll-Expr}
-use Rattle.sql_expr.specs.declared.expr.InfixPart.{InfixPart, roll-InfixPart, out-InfixPart, out-roll-InfixPart}
+use Rattle.sql_expr.specs.declared.expr.InfixPart.{InfixPart, roll-InfixPart, out-roll-InfixPart}
 use Rattle.sql_expr.specs.declared.expr.Part.{Part, roll-Part, out-Part, out-roll-Part}
 use Rattle.sql_expr.specs.declared.expr.Operand.{roll-Operand, out-Operand, out-roll-Operand}
 use Rattle.sql_expr.specs.declared.expr.Postfix.{Postfix, out-Postfix}

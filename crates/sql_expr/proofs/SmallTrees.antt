@@ -1,23 +1,22 @@
 -- Small trees that the rules of expressions admit, and trees that they do not.
-use Rattle.std.proofs.Common.{◌≡◌, ◌++◌, ◌+◌, ℕ, zero, suc, Bool, true, false, List, [], ◌∷◌, length, nat_le, Option, Some, None, refl, sym, ap, subst, ◌∙◌}
-use Rattle.std.specs.Prelude.{codes, IsTrue}
+use Rattle.std.proofs.Common.{◌≡◌, ◌+◌, ℕ, zero, suc, true, false, List, [], ◌∷◌, length, nat_le, Some, None, refl, sym, ap, ◌∙◌}
+use Rattle.std.specs.Prelude.{codes}
 use Rattle.std.proofs.lemmas.List.{append-nil}
 use Rattle.sql_token.specs.declared.token.Token.{Token}
-use Rattle.sql_token.specs.declared.token.TokenKind.{TokenKind}
 use Rattle.sql_token.specs.declared.token.TokenKind.TheVariants as Kind
 use Rattle.sql_token.specs.declared.keyword.Keyword.{Keyword}
 use Rattle.sql_token.specs.declared.keyword.Keyword.TheVariants as K
 use Rattle.sql_token.specs.Keyword.{spelling, is_reserved}
-use Rattle.sql_token.specs.Names.{folded, IsNameKind}
+use Rattle.sql_token.specs.Names.{folded}
 use Rattle.sql_token.specs.Token.{span}
-use Rattle.sql_token.specs.Fixed.{IsFixed, IsSign, IsName}
+use Rattle.sql_token.specs.Fixed.{IsFixed}
 use Rattle.sql_token.proofs.Keywords.{spelling_apart}
 use Rattle.sql_expr.specs.Leaf.{IsNoneOf, IsColumnName, current_words}
-use Rattle.sql_expr.specs.Rules.{Inside, UsualAt, IsExprAt, IsOperand, IsPart, IsInfixPart, IsRow, IsValuesRow}
+use Rattle.sql_expr.specs.Rules.{UsualAt, IsExprAt, IsValuesRow}
 use Rattle.sql_expr.specs.Tokens.{commas_tokens}
 use Rattle.sql_expr.specs.Tree.{expr_tokens, part_tokens}
 use Rattle.sql_expr.proofs.Opened.{made_part, made_operand}
-use Rattle.sql_expr.proofs.Made.{open_part, part_of, open_infix_part, infix_part_of, open_expr, expr_of, alone, is_part, is_infix_part, of_infix_part, is_expr, of_expr, is_alone, of_alone, alone_tokens}
+use Rattle.sql_expr.proofs.Made.{open_part, part_of, open_infix_part, open_expr, alone, is_part, is_infix_part, of_infix_part, is_expr, of_expr, is_alone, of_alone, alone_tokens}
 use Rattle.sql_expr.specs.declared.lists.Commas.{Commas}
 use Rattle.sql_expr.specs.declared.lists.InParens.{InParens}
 use Rattle.sql_expr.specs.declared.operators.Infix.TheVariants as Infix'

@@ -51,9 +51,9 @@ use Rattle.sql_expr.specs.declared.call.Raise.{Raise}
 use Rattle.sql_expr.specs.declared.expr.Expr.{Expr, out-Expr}
 use Rattle.sql_expr.specs.declared.expr.InfixPart.{InfixPart, out-InfixPart}
 use Rattle.sql_expr.specs.declared.expr.Part.{Part, out-Part}
-use Rattle.sql_expr.specs.declared.expr.Postfix.{Postfix, out-Postfix}
-use Rattle.sql_expr.specs.declared.expr.InSet.{InSet, out-InSet}
-use Rattle.sql_expr.specs.declared.expr.Operand.{Operand, out-Operand}
+use Rattle.sql_expr.specs.declared.expr.Postfix.{out-Postfix}
+use Rattle.sql_expr.specs.declared.expr.InSet.{out-InSet}
+use Rattle.sql_expr.specs.declared.expr.Operand.{out-Operand}
 use Rattle.sql_expr.specs.declared.source.JoinKind.{JoinKind}
 use Rattle.sql_expr.specs.declared.source.JoinKind.TheVariants as JoinKind'
 use Rattle.sql_expr.specs.declared.source.Join.{Join}
@@ -64,7 +64,7 @@ use Rattle.sql_expr.specs.declared.source.Indexing.{Indexing}
 use Rattle.sql_expr.specs.declared.source.Indexing.TheVariants as Indexing'
 use Rattle.sql_expr.specs.declared.source.Sources.{Sources, out-Sources}
 use Rattle.sql_expr.specs.declared.source.JoinedSource.{JoinedSource, out-JoinedSource}
-use Rattle.sql_expr.specs.declared.source.TableSource.{TableSource, out-TableSource}
+use Rattle.sql_expr.specs.declared.source.TableSource.{out-TableSource}
 use Rattle.sql_expr.specs.declared.select.Materialized.{Materialized}
 use Rattle.sql_expr.specs.declared.select.Cte.{Cte}
 use Rattle.sql_expr.specs.declared.select.With.{With}
@@ -74,11 +74,11 @@ use Rattle.sql_expr.specs.declared.select.Limit.{Limit}
 use Rattle.sql_expr.specs.declared.select.ResultItem.{ResultItem}
 use Rattle.sql_expr.specs.declared.select.ResultItem.TheVariants as ResultItem'
 use Rattle.sql_expr.specs.declared.select.ValuesRow.{ValuesRow}
-use Rattle.sql_expr.specs.declared.select.SelectArm.{SelectArm, out-SelectArm}
-use Rattle.sql_expr.specs.declared.select.Arm.{Arm, out-Arm}
+use Rattle.sql_expr.specs.declared.select.SelectArm.{out-SelectArm}
+use Rattle.sql_expr.specs.declared.select.Arm.{out-Arm}
 use Rattle.sql_expr.specs.declared.select.CompoundArm.{CompoundArm, out-CompoundArm}
 use Rattle.sql_expr.specs.declared.select.Select.{Select, out-Select}
-use Rattle.sql_expr.specs.declared.expr.InSet.TheOpen.{InSet-F, Operand-F, Postfix-F, Arm-F, TableSource-F, SelectArm-F}
+use Rattle.sql_expr.specs.declared.expr.InSet.TheOpen.{InSet-F, Operand-F, Postfix-F, Arm-F, TableSource-F}
 
 -- What is asked of the trees that stand inside a tree, and of a column's name that stands alone.
 pub record Inside : Type 1 where

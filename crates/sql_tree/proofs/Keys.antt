@@ -1,8 +1,7 @@
 -- Laws of keys: what a key of one operand is, and that no key is a Str as a text.
-use Rattle.std.proofs.Common.{◌≡◌, ◌++◌, ℕ, zero, suc, Bool, true, false, List, [], ◌∷◌, Option, Some, None, refl, sym, ap, subst, ◌∙◌}
+use Rattle.std.proofs.Common.{◌≡◌, ◌++◌, ℕ, zero, suc, Bool, true, false, List, [], ◌∷◌, Option, Some, None, refl, sym, ap, ◌∙◌}
 use Rattle.sql_token.specs.declared.token.Token.{Token}
 use Rattle.sql_expr.specs.Levels.{OpenOperand}
-use Rattle.sql_expr.specs.Rules.{IsExprAt}
 use Rattle.sql_expr.specs.Tokens.{commas_tokens, flat, next_item_tokens, one}
 use Rattle.sql_expr.specs.Tree.{expr_tokens, infix_part_tokens, operand_level, postfix_tokens, select_tokens}
 use Rattle.sql_expr.proofs.Made.{alone, expr_levels}
@@ -145,7 +144,7 @@ inside_kept f kept x None = refl
 inside_kept f kept x (Some left) =
     with_kept (key_operand (f left) (operand_of x)) x (operand_kept (f left) (kept left) (operand_of x))
 
-kept_with : (n left : ℕ) (x : Expr) → expr_tokens (as_key_with n left x) ≡ expr_tokens x
+pub kept_with : (n left : ℕ) (x : Expr) → expr_tokens (as_key_with n left x) ≡ expr_tokens x
 kept_with zero left x = refl
 kept_with (suc n) left x = inside_kept (as_key_with n) (kept_with n) x (left_inside x left)
 

@@ -1,3 +1,4 @@
 pub mod Depths
 pub mod Keys
+pub mod KeysSaid
 pub mod SmallTrees

@@ -1,5 +1,5 @@
 -- Small trees of texts that the rules admit, and trees that they do not.
-use Rattle.std.proofs.Common.{◌≡◌, ℕ, zero, suc, List, [], ◌∷◌, Option, Some, None, refl, sym, ap, subst, ◌∙◌}
+use Rattle.std.proofs.Common.{◌≡◌, ℕ, List, [], ◌∷◌, Some, None, refl, sym, ap, subst, ◌∙◌}
 use Rattle.std.specs.Prelude.{codes}
 use Rattle.sql_token.specs.declared.token.Token.{Token}
 use Rattle.sql_token.specs.declared.token.TokenKind.TheVariants as Kind
@@ -19,10 +19,7 @@ use Rattle.sql_expr.specs.declared.expr.Expr.{Expr, roll-Expr}
 use Rattle.sql_expr.specs.declared.expr.Postfix.{Postfix, out-Postfix, roll-Postfix, out-roll-Postfix}
 use Rattle.sql_tree.specs.Keys.{left_of}
 use Rattle.sql_tree.specs.Rules.{IsCreateTable, IsKeyExpr}
-use Rattle.sql_tree.specs.declared.table.Column.{Column}
-use Rattle.sql_tree.specs.declared.table.Indexed.{Indexed}
 use Rattle.sql_tree.specs.declared.table.TableCons.TheVariants as TableCons'
-use Rattle.sql_tree.specs.declared.table.TableBody.{TableBody}
 use Rattle.sql_tree.specs.declared.table.CreateTable.{CreateTable}
 use Rattle.sql_tree.proofs.Keys.{as_it_is, collate_counts, collate_over, key_alone, no_text_is_key}
 
