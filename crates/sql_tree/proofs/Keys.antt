@@ -9,7 +9,6 @@ use Rattle.sql_expr.proofs.Opened.{made_expr, made_operand, made_part, opened_ex
 use Rattle.sql_expr.specs.declared.lists.Commas.{Commas}
 use Rattle.sql_expr.specs.declared.lists.NextItem.{NextItem}
 use Rattle.sql_expr.specs.declared.operators.Literal.TheVariants as Literal'
-use Rattle.sql_expr.specs.declared.names.ColumnUse.TheVariants as ColumnUse'
 use Rattle.sql_expr.specs.declared.expr.Expr.{Expr, out-Expr, roll-Expr, out-roll-Expr}
 use Rattle.sql_expr.specs.declared.expr.Part.{out-Part, roll-Part, out-roll-Part}
 use Rattle.sql_expr.specs.declared.expr.Operand.{out-Operand, roll-Operand, out-roll-Operand}
