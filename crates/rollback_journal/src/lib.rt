@@ -1,0 +1,13 @@
+//! The rollback journal: its header, whether it is hot, and the checksum of its records.
+#![tactic(auto)]
+
+mod header;
+mod heat;
+mod reads;
+mod sum;
+#[cfg(test)]
+mod tests;
+
+pub use header::{Header, header_bytes, read_header};
+pub use heat::{Heat, hot};
+pub use sum::checksum;
