@@ -1,1 +1,4 @@
+pub mod KeptLemmas
+pub mod PagesLemmas
 pub mod Sound
+pub mod WriteLemmas

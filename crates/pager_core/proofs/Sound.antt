@@ -9,10 +9,6 @@ use Rattle.pager_core.specs.Shape.{HasShape, IsShape}
 use Rattle.pager_core.specs.declared.file_shape.FileShape.{FileShape}
 use Rattle.pager_core.specs.declared.refusal.FileRefusal.TheVariants.{PageSize}
 
--- the least and the greatest page size
-pub size_bounds : (size : ℕ) → is_page_size size ≡ true → (512 ≤ size) × (size ≤ 65536)
-size_bounds size is = (grind (arith, nat_tests), grind (arith, nat_tests))
-
 -- a list in which nothing is found
 not_chosen : {X : Type 0} (b : Bool) (x : X) (o : Option X) → cond b (Some x) o ≡ None → (b ≡ false) × (o ≡ None)
 not_chosen true x o e = absurd (cc)
@@ -33,6 +29,9 @@ none_holds header len accepted = none_found (holds header len) refusals accepted
 pub accepted_size : (header : List ℕ) (len : ℕ) → first_refusal header len ≡ None → is_page_size (page_size header) ≡ true
 accepted_size header len accepted = good_size header (none_holds header len accepted).1.1.0
 
+pub accepted_usable : (header : List ℕ) (len : ℕ) → first_refusal header len ≡ None → 480 ≤ usable_size header
+accepted_usable header len accepted = ltb-false (usable_size header) 480 (or_parts _ _ (none_holds header len accepted).1.1.0).1
+
 pub accepted_length : (header : List ℕ) (len : ℕ) → first_refusal header len ≡ None → 100 ≤ len
 accepted_length header len accepted = ltb-false len 100 (or_parts _ _ (none_holds header len accepted).1.0).0
 
@@ -50,12 +49,12 @@ accepted_count header len accepted =
 -- the sizes of a file that is not refused can be held
 pub is_shape : (header : List ℕ) (len : ℕ) (shape : FileShape) → first_refusal header len ≡ None → HasShape header len shape → IsShape shape
 is_shape header len shape accepted has =
-    let least : 480 ≤ usable_size header = ltb-false (usable_size header) 480 (or_parts _ _ (none_holds header len accepted).1.1.0).1 in
+    let usable = accepted_usable header len accepted in
     let count = accepted_count header len accepted in
     let both : shape.count * shape.page ≡ page_count header len * page_size header = ap₂ (λ (n m : ℕ). n * m) has.count has.page in
     record {
       size = ap is_page_size has.page ∙ accepted_size header len accepted;
-      least = omega (arith, has.usable);
+      least = omega (arith, has.usable, usable);
       usable = omega (arith, has.usable, has.page);
       some = omega (arith, has.count, count.0);
       few = omega (arith, has.count, count.1);

@@ -1,3 +1,6 @@
 pub mod Header
+pub mod Kept
+pub mod Pages
 pub mod Refusals
 pub mod Shape
+pub mod Slots

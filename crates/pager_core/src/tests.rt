@@ -1,6 +1,8 @@
-ghost use Rattle.std.specs.Prelude.{◌≤◌, ◌+◌, ◌≡◌, length};
+ghost use Rattle.std.specs.Prelude.{◌≤◌, ◌+◌, ◌≡◌, true, length, IfOk};
 
-use crate::{FileRefusal, HEADER_LEN, shape};
+use crate::{FileRefusal, FileShape, HEADER_LEN, Pages, shape};
+use alter_disk::{Disk, MemoryDisk, Which};
+use std::alloc::Global;
 use std::test::Fail;
 
 /// The header of a file of two pages of 512 bytes.
@@ -96,5 +98,45 @@ fn files_that_are_too_large(rt: HostRuntime) -> Result<(), Fail> {
     assert_eq!(rt; count(large, 1 << 28), Ok(8192));
     large[31] = 1;
     assert_eq!(rt; count(large, (1 << 28) + 32768), Err(FileRefusal::TooLarge));
+    Ok(())
+}
+
+/// Two pages of a file that ends inside the second.
+fn pages(alloc: Global, calls: usize) -> Result<Pages<MemoryDisk>, Fail>
+    ensures { IfOk result (λ pages. (pages.disk.called ≡ true) × (pages.kept.shape.page ≡ 512) × (pages.kept.shape.count ≡ 2)) }
+{
+    let mut disk = MemoryDisk::new(alloc, "a.db", &[7; 1000], b"", 1024, calls, &[])?;
+    disk.open("a.db")?;
+    let shape = FileShape {
+        page: 512,
+        usable: 512,
+        count: 2,
+        format: 4,
+    };
+    Ok(Pages::new(alloc, disk, shape))
+}
+
+#[test]
+fn a_page_is_changed_written_and_forgotten(rt: HostRuntime) -> Result<(), Fail> {
+    let mut pages = pages(rt.alloc(), 9)?;
+    assert_eq!(rt; &pages.page(2)?[486..490], [7, 7, 0, 0].as_slice());
+    pages.change(2, 487, b"ab")?;
+    pages.write_back(2)?;
+    pages.settle();
+    pages.change(2, 0, b"c")?;
+    assert_eq!(rt; pages.dirty(), 1);
+    pages.forget();
+    assert_eq!(rt; &pages.page(2)?[486..490], [7, b'a', b'b', 0].as_slice());
+    assert_eq!(rt; pages.page(2)?[0], 7);
+    assert_eq!(rt; pages.into_disk().bytes(Which::Db).len(), 1024);
+    Ok(())
+}
+
+#[test]
+fn a_page_is_read_once(rt: HostRuntime) -> Result<(), Fail> {
+    let mut pages = pages(rt.alloc(), 2)?;
+    assert_eq!(rt; pages.page(1)?[0], 7);
+    assert_eq!(rt; pages.page(1)?[511], 7);
+    assert!(rt; pages.page(2).is_err(), "the disk takes two calls");
     Ok(())
 }

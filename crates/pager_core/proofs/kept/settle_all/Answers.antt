@@ -1,0 +1,6 @@
+use Rattle.pager_core.specs.Slots.{settled}
+use Rattle.pager_core.proofs.KeptLemmas.{mapped_more}
+use Rattle.pager_core.proofs.kept.settle_all.Goals as goal
+
+pub loop-n-preserved : goal.loop-n-preserved
+loop-n-preserved c = mapped_more settled _ _ _ _ _ _ c.loop-n-test.true c.loop-n.invariant c.index_mut.ensures.value c.settle.ensures
