@@ -1,0 +1,5 @@
+pub mod ListLaws
+pub mod Loops
+pub mod NameLaws
+pub mod OperatorLaws
+pub mod WindowLaws
