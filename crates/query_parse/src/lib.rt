@@ -2,5 +2,7 @@
 #![tactic(auto)]
 
 mod objects;
+#[cfg(test)]
+mod tests;
 
 pub use objects::{names, object};
