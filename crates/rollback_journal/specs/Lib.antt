@@ -1,3 +1,6 @@
 pub mod Checksum
 pub mod Header
 pub mod Heat
+pub mod Playback
+pub mod Records
+pub mod Standing

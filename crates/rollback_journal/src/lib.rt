@@ -4,6 +4,7 @@
 mod header;
 mod heat;
 mod reads;
+mod record;
 mod sum;
 #[cfg(test)]
 mod tests;

@@ -1,0 +1,45 @@
+//! The records of a journal.
+ghost use Rattle.std.specs.Prelude.{◌≡◌, ◌≤◌, ◌+◌, length};
+ghost use Rattle.rollback_journal.specs.Records.{record_len, verdict_of};
+
+use crate::header::Header;
+use crate::sum::checksum;
+use alter_bytes::u32_at;
+
+/// What playback does with a record.
+#[derive(Clone, Copy, Debug, PartialEq, Eq)]
+pub(crate) enum Verdict {
+    /// It ends before it.
+    End,
+    /// It goes on behind it.
+    Skip,
+    /// It plays it into the page of this number.
+    Take(u32),
+}
+
+/// The bytes of a record: a page's number, the page and its checksum.
+pub(crate) fn record_len(h: &Header) -> usize
+    ensures { result ≡ record_len h.now }
+{
+    h.page as usize + 8
+}
+
+/// What playback does with the record of these bytes.
+pub(crate) fn judge(h: &Header, nonce: u32, bytes: &[u8]) -> Verdict
+    ensures { result ≡ verdict_of h.now nonce bytes.now }
+{
+    if bytes.len() < record_len(h) {
+        return Verdict::End;
+    }
+    let number = u32_at(bytes, 0);
+    let page = h.page as usize;
+    if number == 0 {
+        Verdict::End
+    } else if h.size < number {
+        Verdict::Skip
+    } else if checksum(nonce, &bytes[4..4 + page]) == u32_at(bytes, page + 4) {
+        Verdict::Take(number)
+    } else {
+        Verdict::End
+    }
+}
