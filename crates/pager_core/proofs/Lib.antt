@@ -1,3 +1,4 @@
+pub mod Fits
 pub mod KeptLemmas
 pub mod PagesLemmas
 pub mod Sound

@@ -6,7 +6,7 @@ use Rattle.std.specs.Option.{option_or}
 use Rattle.alter_bytes.specs.Field.{overlaid}
 use Rattle.alter_disk.specs.Changes.{IfTold, ReadsAt}
 use Rattle.alter_disk.specs.Files.{Files}
-use Rattle.alter_disk.specs.Uses.{OnlyReads}
+use Rattle.alter_disk.specs.Moments.{ReadsQuietly}
 use Rattle.alter_disk.specs.declared.disk.Disk.{Ghosts}
 use Rattle.pager_core.specs.declared.file_shape.FileShape.{FileShape}
 use Rattle.pager_core.specs.declared.pages.Pages.{Pages}
@@ -60,7 +60,7 @@ module _ {D : Type 0} (disk : Ghosts D) where
       }
 
   pub read_stays : (old new : Pages D) (mid : KeptPages) (n page : ℕ) (bytes : List ℕ) → slot_of old.kept n ≡ Unread → KeepsAll old.kept mid
-      → Puts n (Same bytes) mid new.kept → OnlyReads disk old.disk new.disk → page ≡ mid.shape.page
+      → Puts n (Same bytes) mid new.kept → ReadsQuietly disk old.disk new.disk → page ≡ mid.shape.page
       → IfTold (disk.files old.disk) (λ f. bytes ≡ page_bytes page n f.db) → StayAll disk old new
   read_stays old new mid n page bytes was keeps put reads size read =
       let shape = put.shape ∙ keeps.shape in
@@ -70,8 +70,8 @@ module _ {D : Type 0} (disk : Ghosts D) where
         shape = shape;
         before = put.before ∙ keeps.before;
         pages = λ m. elim (cases_eq m n) [
-          | inl same ↦ let P : ℕ → Type 0 = λ k. PageStays disk k old new in subst P (sym same) (read_page old new n bytes shape reads.files was put.here so)
-          | inr other ↦ page_stays old new shape reads.files m (put.others m other ∙ keeps.slots m)
+          | inl same ↦ let P : ℕ → Type 0 = λ k. PageStays disk k old new in subst P (sym same) (read_page old new n bytes shape reads.only.files was put.here so)
+          | inr other ↦ page_stays old new shape reads.only.files m (put.others m other ∙ keeps.slots m)
         ];
         reads = reads;
       }

@@ -1,4 +1,5 @@
 pub mod Header
+pub mod Image
 pub mod Kept
 pub mod Pages
 pub mod Refusals

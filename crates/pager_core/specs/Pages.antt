@@ -3,9 +3,11 @@ use Rattle.std.specs.Prelude.{◌≡◌, ◌≢◌, ◌≤◌, ℕ, ◌-◌, ◌
 use Rattle.std.specs.Option.{option_or}
 use Rattle.alter_bytes.specs.Field.{overlaid}
 use Rattle.alter_disk.specs.declared.disk.Disk.{Ghosts}
-use Rattle.alter_disk.specs.Uses.{OnlyReads}
+use Rattle.alter_disk.specs.Moments.{ReadsQuietly}
+use Rattle.pager_core.specs.declared.file_shape.FileShape.{FileShape}
 use Rattle.pager_core.specs.declared.pages.Pages.{Pages}
-use Rattle.pager_core.specs.Kept.{slot_of}
+use Rattle.pager_core.specs.Header.{page_count, page_size}
+use Rattle.pager_core.specs.Kept.{KeepsAll, changed_pages, slot_of, unread}
 use Rattle.pager_core.specs.Slots.{is_changed_in, original_in, shown_in}
 
 -- the bytes, filled up with zeros to this length
@@ -17,9 +19,37 @@ abbrev pub page_bytes : ℕ → ℕ → List ℕ → List ℕ
 page_bytes size number bytes = padded size (take size (drop ((number - 1) * size) bytes))
 
 module _ {D : Type 0} where
+  -- the disk that the pages own
+  abbrev pub disk_of : Pages D → D
+  disk_of pages = pages.disk
+
+  -- the file's sizes with its changes
+  abbrev pub shape_of : Pages D → FileShape
+  shape_of pages = pages.kept.shape
+
+  -- how many pages it had before them
+  abbrev pub before_of : Pages D → ℕ
+  before_of pages = pages.kept.before
+
+  -- how many pages count as changed
+  abbrev pub dirty_of : Pages D → ℕ
+  dirty_of pages = changed_pages pages.kept
+
+  -- the pages of a file of this shape, none of which was read
+  abbrev pub unread_pages : D → FileShape → Pages D
+  unread_pages disk shape = record { disk = disk; kept = unread shape }
+
+  -- the same pages over this disk
+  abbrev pub with_disk : Pages D → D → Pages D
+  with_disk pages disk = record pages { disk = disk }
+
+  -- nothing is kept of a page that was not kept before, and all else is kept as it was
+  abbrev pub KeepsNoMore : Pages D → Pages D → Type 0
+  KeepsNoMore old new = KeepsAll old.kept new.kept
+
   -- a number of a page, from 1
   abbrev pub IsPage : Pages D → ℕ → Type 0
-  IsPage pages n = (1 ≤ n) × (n ≤ pages.kept.shape.count)
+  IsPage pages n = (1 ≤ n) × (n ≤ (shape_of pages).count)
 
   -- the bytes of a page that was read or changed
   abbrev pub shown : Pages D → ℕ → Option (List ℕ)
@@ -62,36 +92,43 @@ KeepsKnown disk old new = (n : ℕ) (bytes : List ℕ) → 1 ≤ n → known dis
 
 -- all pages stay, and the disk was only read
 pub record StayAll {D : Type 0} (disk : Ghosts D) (old new : Pages D) : Type 0 where
-  pub shape : new.kept.shape ≡ old.kept.shape
-  pub before : new.kept.before ≡ old.kept.before
+  pub shape : shape_of new ≡ shape_of old
+  pub before : before_of new ≡ before_of old
   pub pages : (n : ℕ) → PageStays disk n old new
-  pub reads : OnlyReads disk old.disk new.disk
+  pub reads : ReadsQuietly disk (disk_of old) (disk_of new)
 
 -- one page has this piece at `at`, and all others stay
 pub record ChangesPage {D : Type 0} (disk : Ghosts D) (n at : ℕ) (piece : List ℕ) (old new : Pages D) : Type 0 where
-  pub shape : new.kept.shape ≡ old.kept.shape
-  pub before : new.kept.before ≡ old.kept.before
+  pub shape : shape_of new ≡ shape_of old
+  pub before : before_of new ≡ before_of old
   pub there : IsSome (shown new n)
   pub bytes : (bytes : List ℕ) → known disk old n ≡ Some bytes → shown new n ≡ Some (overlaid bytes at piece)
   pub original : (bytes : List ℕ) → original disk old n ≡ Some bytes → original disk new n ≡ Some bytes
   pub changed : is_changed new n ≡ true
   pub others : (m : ℕ) → m ≢ n → PageStays disk m old new
-  pub reads : OnlyReads disk old.disk new.disk
+  pub reads : ReadsQuietly disk (disk_of old) (disk_of new)
 
 -- the pages are as they were before the changes, and there are as many as then
 pub record ForgetsChanges {D : Type 0} (disk : Ghosts D) (old new : Pages D) : Type 0 where
-  pub shape : new.kept.shape ≡ record old.kept.shape { count = old.kept.before }
-  pub before : new.kept.before ≡ old.kept.before
-  pub pages : (n : ℕ) → n ≤ old.kept.before → known disk new n ≡ original disk old n
+  pub shape : shape_of new ≡ record (shape_of old) { count = before_of old }
+  pub before : before_of new ≡ before_of old
+  pub pages : (n : ℕ) → n ≤ before_of old → known disk new n ≡ original disk old n
   pub changed : (n : ℕ) → is_changed new n ≡ false
-  pub stays : new.disk ≡ old.disk
+  pub stays : disk_of new ≡ disk_of old
 
 -- the pages stay as they are with the changes, and none counts as changed
 pub record SettlesChanges {D : Type 0} (disk : Ghosts D) (old new : Pages D) : Type 0 where
-  pub shape : new.kept.shape ≡ old.kept.shape
-  pub before : new.kept.before ≡ old.kept.shape.count
+  pub shape : shape_of new ≡ shape_of old
+  pub before : before_of new ≡ (shape_of old).count
   pub kept : (n : ℕ) → shown new n ≡ shown old n
   pub pages : (n : ℕ) → known disk new n ≡ known disk old n
   pub original : (n : ℕ) → original disk new n ≡ known disk old n
   pub changed : (n : ℕ) → is_changed new n ≡ false
-  pub stays : new.disk ≡ old.disk
+  pub stays : disk_of new ≡ disk_of old
+
+-- the pages without their changes are those of these bytes of a database, which has as many and has them wholly
+pub record FitsDatabase {D : Type 0} (disk : Ghosts D) (pages : Pages D) (db : List ℕ) : Type 0 where
+  pub size : page_size db ≡ (shape_of pages).page
+  pub count : page_count db (length db) ≡ before_of pages
+  pub whole : before_of pages * (shape_of pages).page ≤ length db
+  pub originals : (n : ℕ) → 1 ≤ n → n ≤ before_of pages → original disk pages n ≡ Some (page_bytes (shape_of pages).page n db)

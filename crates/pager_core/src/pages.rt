@@ -1,12 +1,12 @@
 //! The pages of a file over its disk.
 ghost use Rattle.std.specs.Prelude.{◌≡◌, ◌≤◌, ◌+◌, ◌-◌, ◌*◌, ◌^◌, ◌++◌, ◌<◌, true, false, length, take, drop, replicate, Some, IfOk, OnOk, OnErr, IsErrOf, IsSome, IsSomeAnd, ⊤};
-ghost use Rattle.alter_disk.specs.Changes.{IfTold, TornIn, Written};
+ghost use Rattle.alter_disk.specs.Changes.{IfTold, Torn, TornIn, Written};
 ghost use Rattle.alter_disk.specs.Faults.{HasCause};
 ghost use Rattle.alter_disk.specs.Rest.{KeepsRest};
-ghost use Rattle.alter_disk.specs.Uses.{OnlyReads, ReadFailed};
-ghost use Rattle.pager_core.specs.Kept.{KeepsAll, changed_pages, unread};
+ghost use Rattle.alter_disk.specs.Moments.{ChangesFile, ReadsQuietly};
+ghost use Rattle.alter_disk.specs.Uses.{ReadFailed};
 ghost use Rattle.pager_core.specs.Shape.{IsShape};
-ghost use Rattle.pager_core.specs.Pages.{ChangesPage, ForgetsChanges, IsPage, KeepsKnown, SettlesChanges, StayAll, bytes_of, is_changed, page_bytes, place_of, shown};
+ghost use Rattle.pager_core.specs.Pages.{ChangesPage, ForgetsChanges, IsPage, KeepsKnown, KeepsNoMore, SettlesChanges, StayAll, before_of, bytes_of, dirty_of, disk_of, is_changed, page_bytes, place_of, shape_of, shown, unread_pages, with_disk};
 ghost use Rattle.pager_core.specs.contracts.pages.Pages.{the_row};
 ghost use Rattle.std.specs.Borrow.{Lends, follows_so, sem};
 ghost use mathlib.Core.Option.{none};
@@ -31,8 +31,7 @@ impl<D: Disk> Pages<D> {
     /// The pages of a file of this shape. It calls no method of the disk.
     pub fn new(alloc: Global, disk: D, shape: FileShape) -> Pages<D>
         requires { IsShape shape }
-        ensures disk { result.disk ≡ disk }
-        ensures kept { result.kept ≡ unread shape }
+        ensures { result ≡ unread_pages disk shape }
     {
         Pages {
             disk,
@@ -41,27 +40,27 @@ impl<D: Disk> Pages<D> {
     }
 
     pub fn into_disk(self) -> D
-        ensures { result ≡ self.disk }
+        ensures { result ≡ disk_of self }
     {
         self.disk
     }
 
     /// How many pages there are.
     pub fn count(&self) -> u32
-        ensures { result ≡ self.now.kept.shape.count }
+        ensures { result ≡ (shape_of self.now).count }
     {
         self.kept.shape().count
     }
 
     /// How many pages there were before the changes.
     pub fn before(&self) -> u32
-        ensures { result ≡ self.now.kept.before }
+        ensures { result ≡ before_of self.now }
     {
         self.kept.before()
     }
 
     pub fn shape(&self) -> FileShape
-        ensures shape { result ≡ self.now.kept.shape }
+        ensures shape { result ≡ shape_of self.now }
         ensures sound { IsShape result }
     {
         self.kept.shape()
@@ -69,7 +68,7 @@ impl<D: Disk> Pages<D> {
 
     /// How many pages count as changed.
     pub fn dirty(&self) -> usize
-        ensures { result ≡ changed_pages self.now.kept }
+        ensures { result ≡ dirty_of self.now }
     {
         self.kept.dirty()
     }
@@ -84,12 +83,13 @@ impl<D: Disk> Pages<D> {
 
     /// Reads page `n`, if it was not read or changed before.
     pub fn load(&mut self, n: u32) -> Result<(), PageError>
-        requires called { D.called self.old.disk ≡ true }
+        requires called { D.called (disk_of self.old) ≡ true }
         requires number { IsPage self.old n }
         ensures there { OnOk result (IsSome (shown self.new n)) }
         ensures stay { StayAll D.Disk self.old self.new }
-        ensures none { OnErr result (KeepsAll self.old.kept self.new.kept) }
-        ensures failed { IsErrOf result PageError.Failed → ReadFailed D.Disk self.old.disk self.new.disk }
+        ensures none { OnErr result (KeepsNoMore self.old self.new) }
+        ensures again { IsSome (shown self.old n) → self.new ≡ self.old }
+        ensures failed { IsErrOf result PageError.Failed → ReadFailed D.Disk (disk_of self.old) (disk_of self.new) }
     {
         if self.kept.is_shown(n) {
             return Ok(());
@@ -105,7 +105,7 @@ impl<D: Disk> Pages<D> {
     pub fn loaded(&self, n: u32) -> &[u8]
         requires { IsSome (shown self.now n) }
         ensures bytes { shown self.now n ≡ Some result.now }
-        ensures extent { length result.now ≡ self.now.kept.shape.page }
+        ensures extent { length result.now ≡ (shape_of self.now).page }
     {
         match self.kept.shown(n) {
             Some(bytes) => bytes,
@@ -115,11 +115,12 @@ impl<D: Disk> Pages<D> {
 
     /// Page `n`. It is read, if it was not read or changed before.
     pub fn page(&mut self, n: u32) -> Result<&[u8], PageError>
-        requires called { D.called self.old.disk ≡ true }
+        requires called { D.called (disk_of self.old) ≡ true }
         requires number { IsPage self.old n }
         ensures* after { sem 𝓛 (follows_so (the_row D.row) (the_row D.row) self.entry.ghost_name none (λ _ _. ⊤)
-            (λ now. StayAll D.Disk self.old now × IfOk result (λ bytes. (shown now n ≡ Some bytes.now) × (length bytes.now ≡ now.kept.shape.page))
-            × (IsErrOf result PageError.Failed → ReadFailed D.Disk self.old.disk now.disk))) }
+            (λ now. StayAll D.Disk self.old now × IfOk result (λ bytes. (shown now n ≡ Some bytes.now) × (length bytes.now ≡ (shape_of now).page))
+            × (IsSome (shown self.old n) → now ≡ self.old)
+            × (IsErrOf result PageError.Failed → ReadFailed D.Disk (disk_of self.old) (disk_of now)))) }
     {
         self.load(n)?;
         Ok(self.loaded(n))
@@ -127,18 +128,32 @@ impl<D: Disk> Pages<D> {
 
     /// Writes `bytes` into page `n` from `at` on.
     pub fn change(&mut self, n: u32, at: usize, bytes: &[u8]) -> Result<(), PageError>
-        requires called { D.called self.old.disk ≡ true }
+        requires called { D.called (disk_of self.old) ≡ true }
         requires number { IsPage self.old n }
-        requires fits { at + length bytes.now ≤ self.old.kept.shape.page }
+        requires fits { at + length bytes.now ≤ (shape_of self.old).page }
         ensures changed { OnOk result (ChangesPage D.Disk n at bytes.now self.old self.new) }
         ensures stay { OnErr result (StayAll D.Disk self.old self.new) }
-        ensures none { OnErr result (KeepsAll self.old.kept self.new.kept) }
-        ensures failed { IsErrOf result PageError.Failed → ReadFailed D.Disk self.old.disk self.new.disk }
+        ensures none { OnErr result (KeepsNoMore self.old self.new) }
+        ensures failed { IsErrOf result PageError.Failed → ReadFailed D.Disk (disk_of self.old) (disk_of self.new) }
     {
         let room = self.kept.room_for(n)?;
         self.load(n)?;
         self.kept.change(n, room, at, bytes);
         Ok(())
+    }
+
+    /// Page `n` as it stands in the database, without its changes. Nothing of it is kept.
+    pub fn stored(&mut self, n: u32) -> Result<Vec<u8>, PageError>
+        requires called { D.called (disk_of self.old) ≡ true }
+        requires number { IsPage self.old n }
+        ensures extent { IfOk result (λ bytes. length bytes.items ≡ (shape_of self.old).page) }
+        ensures told { IfOk result (λ bytes. IfTold (D.files (disk_of self.old)) (λ files. bytes.items ≡ page_bytes (shape_of self.old).page n files.db)) }
+        ensures kept { self.new ≡ with_disk self.old (disk_of self.new) }
+        ensures reads { ReadsQuietly D.Disk (disk_of self.old) (disk_of self.new) }
+        ensures failed { IsErrOf result PageError.Failed → ReadFailed D.Disk (disk_of self.old) (disk_of self.new) }
+    {
+        let page = self.kept.shape().page;
+        read_page(self.kept.allocator(), &mut self.disk, page, n)
     }
 
     /// Drops all changes.
@@ -157,22 +172,23 @@ impl<D: Disk> Pages<D> {
 
     /// The disk. The pages that were read or changed stay as they are.
     pub fn disk(&mut self) -> &mut D
-        ensures* writes_back { sem 𝓛 (Lends (the_row D.row) D.row self.entry result (λ disk. record self.old { disk = disk })) }
-        ensures disk { result.now ≡ self.old.disk }
+        ensures* writes_back { sem 𝓛 (Lends (the_row D.row) D.row self.entry result (λ disk. with_disk self.old disk)) }
+        ensures disk { result.now ≡ disk_of self.old }
     {
         &mut self.disk
     }
 
     /// Writes page `n`, which counts as changed, at its place in the database, by one write.
     pub fn write_back(&mut self, n: u32) -> Result<(), Failed>
-        requires called { D.called self.old.disk ≡ true }
+        requires called { D.called (disk_of self.old) ≡ true }
         requires changed { is_changed self.old n ≡ true }
-        ensures written { OnOk result (Written Which.Db (place_of self.old n) (bytes_of self.old n) (D.files self.old.disk) (D.files self.new.disk)) }
-        ensures torn { OnErr result (TornIn Which.Db (place_of self.old n) (length (bytes_of self.old n)) (D.files self.old.disk) (D.files self.new.disk)) }
-        ensures kept { self.new.kept ≡ self.old.kept }
+        ensures written { OnOk result (Written Which.Db (place_of self.old n) (bytes_of self.old n) (D.files (disk_of self.old)) (D.files (disk_of self.new))) }
+        ensures torn { OnErr result (TornIn Which.Db (place_of self.old n) (length (bytes_of self.old n)) (D.files (disk_of self.old)) (D.files (disk_of self.new))) }
+        ensures kept { self.new ≡ with_disk self.old (disk_of self.new) }
         ensures known { OnOk result (KeepsKnown D.Disk self.old self.new) }
-        ensures rest { KeepsRest D.label D.called D.opened D.read_faults self.old.disk self.new.disk }
-        ensures cause { HasCause (D.write_faults self.old.disk) (D.write_faults self.new.disk) result }
+        ensures changes { ChangesFile D.Disk Which.Db (Torn (place_of self.old n) (length (bytes_of self.old n))) (disk_of self.old) (disk_of self.new) }
+        ensures rest { KeepsRest D.label D.called D.opened D.read_faults (disk_of self.old) (disk_of self.new) }
+        ensures cause { HasCause (D.write_faults (disk_of self.old)) (D.write_faults (disk_of self.new)) result }
     {
         let (at, bytes) = self.kept.placed(n);
         self.disk.write(Which::Db, at, bytes)
@@ -186,7 +202,7 @@ fn read_page<D: Disk>(alloc: Global, disk: &mut D, page: u32, n: u32) -> Result<
     requires place { n * page ≤ 2 ^ 30 }
     ensures extent { IfOk result (λ bytes. length bytes.items ≡ page) }
     ensures told { IfOk result (λ bytes. IfTold (D.files disk.old) (λ files. bytes.items ≡ page_bytes page n files.db)) }
-    ensures reads { OnlyReads D.Disk disk.old disk.new }
+    ensures reads { ReadsQuietly D.Disk disk.old disk.new }
     ensures failed { IsErrOf result PageError.Failed → ReadFailed D.Disk disk.old disk.new }
 {
     let mut bytes = vec![in alloc; 0u8; page as usize]?;

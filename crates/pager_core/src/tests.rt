@@ -1,4 +1,5 @@
 ghost use Rattle.std.specs.Prelude.{◌≤◌, ◌+◌, ◌≡◌, true, length, IfOk};
+ghost use Rattle.pager_core.specs.Pages.{disk_of, shape_of};
 
 use crate::{FileRefusal, FileShape, HEADER_LEN, Pages, shape};
 use alter_disk::{Disk, MemoryDisk, Which};
@@ -103,7 +104,7 @@ fn files_that_are_too_large(rt: HostRuntime) -> Result<(), Fail> {
 
 /// Two pages of a file that ends inside the second.
 fn pages(alloc: Global, calls: usize) -> Result<Pages<MemoryDisk>, Fail>
-    ensures { IfOk result (λ pages. (pages.disk.called ≡ true) × (pages.kept.shape.page ≡ 512) × (pages.kept.shape.count ≡ 2)) }
+    ensures { IfOk result (λ pages. ((disk_of pages).called ≡ true) × ((shape_of pages).page ≡ 512) × ((shape_of pages).count ≡ 2)) }
 {
     let mut disk = MemoryDisk::new(alloc, "a.db", &[7; 1000], b"", 1024, calls, &[])?;
     disk.open("a.db")?;
