@@ -1,11 +1,10 @@
 -- Journals that are played by hand.
 use Rattle.std.proofs.Common.{◌≡◌, List, [], ◌∷◌, ◌++◌, replicate, take, refl}
-use Rattle.alter_disk.specs.Files.{Files}
 use Rattle.rollback_journal.specs.declared.header.Header.{Header}
 use Rattle.rollback_journal.specs.Header.{bytes_of, magic}
-use Rattle.rollback_journal.specs.Records.{Entry, entries_from, entries_of}
+use Rattle.rollback_journal.specs.Records.{entries_from, entries_of}
 use Rattle.rollback_journal.specs.Playback.{played, first_missing}
-use Rattle.rollback_journal.specs.Standing.{Standing, Stands, IsShort, IsSuper, standing}
+use Rattle.rollback_journal.specs.Standing.{Stands, IsShort, IsSuper, standing}
 use Rattle.std.specs.Prelude.{ℕ, true}
 use lib.Count.{ones}
 

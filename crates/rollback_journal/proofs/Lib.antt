@@ -1,2 +1,5 @@
 pub mod Examples
+pub mod FilePages
+pub mod Shut
 pub mod Told
+pub mod Unjournaled

@@ -1,5 +1,5 @@
 -- What a database and its journal stand for together.
-use Rattle.std.specs.Prelude.{ℕ, ◌*◌, ◌^◌, nat_lt, Bool, true, false, ◌||◌, List, length, Option, Some, None}
+use Rattle.std.specs.Prelude.{ℕ, ◌*◌, ◌^◌, nat_lt, Bool, true, false, ◌||◌, List, length, Some, None}
 use Rattle.alter_disk.specs.Files.{Files}
 use Rattle.rollback_journal.specs.declared.header.Header.{Header}
 use Rattle.rollback_journal.specs.declared.heat.Heat.{Heat}
