@@ -105,14 +105,14 @@ module _ {Image Command : Type 0} (rules : Rules Image Command) where
   outcome_later rose Part text before status verdicts last after called left later is = is
 
   -- a call that ran its commands is whole
-  pub performed_ok : (rose : Rises) (called all_done : Bool) (text left : List ℕ) (before after : Files) (given now : List ℕ)
-      → RanSo rules rose called (Ok all_done) text left before after given now
+  pub performed_ok : (rose : Rises) (First : Type 0) (called all_done : Bool) (text left : List ℕ) (before after : Files) (given now : List ℕ)
+      → (First → rose.sink) → RanSo rules (record rose { sink = First }) called (Ok all_done) text left before after given now
       → Performed rules rose text before after called left given now (run_status all_done)
-  performed_ok rose called all_done text left before after given now is = record {
+  performed_ok rose First called all_done text left before after given now first is = record {
     planned = run_status all_done;
     verdicts = is.0;
     last = [];
-    outcome = is.1;
+    outcome = outcome_later rose First text before (run_status all_done) is.0 [] after called left first is.1;
     told = inl (refl, is.2 ∙ sym (append-nil (given ++ verdict_lines 1 is.0)));
   }
 
@@ -163,17 +163,17 @@ module _ {Image Command : Type 0} (rules : Rules Image Command) where
       stop_whole rose First Part called stop status is.0 text left before after given mid now first later is.1 is.2 last
 
   -- a call that ran its commands is whole where all three tell
-  pub performed_told_ok : (rose : Rises) (called all_done : Bool) (text left : Option (List ℕ)) (before after : Option Files)
-      (given now : Option (List ℕ)) → WhereTold text left before after given now (RanSo rules rose called (Ok all_done))
+  pub performed_told_ok : (rose : Rises) (First : Type 0) (called all_done : Bool) (text left : Option (List ℕ)) (before after : Option Files)
+      (given now : Option (List ℕ)) → (First → rose.sink) → WhereTold text left before after given now (RanSo rules (record rose { sink = First }) called (Ok all_done))
       → WhereTold text left before after given now (λ text left before after given now. Performed rules rose text before after called left given now (run_status all_done))
-  performed_told_ok rose called all_done None left before after given now is = tt
-  performed_told_ok rose called all_done (Some t) left None after given now is = tt
-  performed_told_ok rose called all_done (Some t) left (Some f) after None now is = tt
-  performed_told_ok rose called all_done (Some t) None (Some f) after (Some w) now is = absurd is
-  performed_told_ok rose called all_done (Some t) (Some l) (Some f) None (Some w) now is = absurd is
-  performed_told_ok rose called all_done (Some t) (Some l) (Some f) (Some a) (Some w) None is = absurd is
-  performed_told_ok rose called all_done (Some t) (Some l) (Some f) (Some a) (Some w) (Some n) is =
-      performed_ok rose called all_done t l f a w n is
+  performed_told_ok rose First called all_done None left before after given now first is = tt
+  performed_told_ok rose First called all_done (Some t) left None after given now first is = tt
+  performed_told_ok rose First called all_done (Some t) left (Some f) after None now first is = tt
+  performed_told_ok rose First called all_done (Some t) None (Some f) after (Some w) now first is = absurd is
+  performed_told_ok rose First called all_done (Some t) (Some l) (Some f) None (Some w) now first is = absurd is
+  performed_told_ok rose First called all_done (Some t) (Some l) (Some f) (Some a) (Some w) None first is = absurd is
+  performed_told_ok rose First called all_done (Some t) (Some l) (Some f) (Some a) (Some w) (Some n) first is =
+      performed_ok rose First called all_done t l f a w n first is
 
   -- a call that stopped is whole where all three tell
   pub performed_told_stop : (rose : Rises) (First Part : Type 0) (called : Bool) (stop : Stop) (status : Status) (text left : Option (List ℕ))

@@ -1,6 +1,7 @@
 pub mod Added
 pub mod CauseLemmas
 pub mod CommittedLemmas
+pub mod EndLemmas
 pub mod FileLemmas
 pub mod FinishLemmas
 pub mod FirstRun

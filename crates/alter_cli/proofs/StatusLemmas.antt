@@ -9,15 +9,11 @@ use Rattle.alter_cli.specs.declared.stop.Stop.{Stop}
 use Rattle.alter_cli.specs.declared.stop.Stop.TheVariants.{Misused, TooLong, Unspelled, Unread, Unserved, Unreadable, Unwritten, Unprinted, Memory}
 use Rattle.alter_cli.specs.Causes.{CanRun, IsExactly, IsFileRefused, IsRunStatus, IsUnserved}
 use Rattle.alter_cli.specs.Rules.{Rules}
-use Rattle.alter_cli.specs.Stops.{CanRunTold, IsCaused, IsRunStop, IsScriptTold, NoForm, NoScript, OpensOf, stop_status}
+use Rattle.alter_cli.specs.Stops.{CanRunTold, IsCaused, IsRunStop, IsScriptTold, IsStopStatus, NoForm, NoScript, OpensOf, stop_status}
 use Rattle.alter_cli.proofs.PerformLemmas.{Commands_read}
 
--- a stop and its last line: the status of the stop, or a fault by the line
-abbrev pub IsStopStatus : Type 0 → Stop → Status → Type 0
-IsStopStatus Part stop status = (status ≡ stop_status stop) ⊎ ((status ≡ statuses.Fault) × Part)
-
 -- a status that is another comes under no condition, and a fault or want of memory may come in its place
-other_status : (Wanted : Status → Type 0) (Condition Cause : Type 0) (status : Status) → (Wanted status → ⊥)
+pub other_status : (Wanted : Status → Type 0) (Condition Cause : Type 0) (status : Status) → (Wanted status → ⊥)
     → (Condition → (status ≡ statuses.Memory) ⊎ ((status ≡ statuses.Fault) × Cause)) → IsExactly Wanted Condition Cause status
 other_status Wanted Condition Cause status never instead = record { only = λ w. absurd (never w); comes = λ c. inr (instead c) }
 

@@ -52,6 +52,16 @@ IsLast Sunk stop status given now =
     ((status ≡ stop_status stop) × (now ≡ given ++ stop_line stop))
     ⊎ (Sunk × (status ≡ statuses.Fault) × WroteFront given (stop_line stop) (Some now))
 
+-- a stop and its last line: the status of the stop, or a fault by the line
+abbrev pub IsStopStatus : Type 0 → Stop → Status → Type 0
+IsStopStatus Sunk stop status = (status ≡ stop_status stop) ⊎ ((status ≡ statuses.Fault) × Sunk)
+
+-- The end of a call that ran its commands, each of them done or not, or stopped so: its status, and what a sink that had
+-- the commands' lines was given behind them.
+abbrev pub IsEnd : Type 0 → Result Bool Stop → Status → Option (List ℕ) → Option (List ℕ) → Type 0
+IsEnd Sunk (Ok all_done) status had now = (status ≡ run_status all_done) × (now ≡ had)
+IsEnd Sunk (Err stop) status had now = IsStopStatus Sunk stop status × IfTold had (λ given. IsSomeAnd now (IsLast Sunk stop status given))
+
 -- what a sink was given by a run of commands, each of them done or not, or stopped so
 abbrev pub GaveLines : Type 0 → List ℕ → List ℕ → Result Bool Stop → Type 0
 GaveLines Sunk given now (Ok all_done) = (verdicts : List Verdict) × (now ≡ given ++ verdict_lines 1 verdicts)

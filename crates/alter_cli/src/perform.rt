@@ -7,7 +7,7 @@ ghost use Rattle.alter_cli.specs.Causes.{IsFrontTaken};
 ghost use Rattle.alter_cli.specs.Ending.{EndsByFile, EndsByRun, EndsByScript, EndsComplete, EndsMisused, EndsPerformed, EndsPrinted, IfNamed, IfNameless, Keeps, WhereSinkTells};
 ghost use Rattle.alter_cli.specs.Opens.{first_rules};
 ghost use Rattle.alter_cli.specs.Outcome.{file_of};
-ghost use Rattle.alter_cli.specs.Stops.{CanRunTold, GaveLines, IsLast, RunsSo, StopsBy, stop_status};
+ghost use Rattle.alter_cli.specs.Stops.{CanRunTold, GaveLines, IsEnd, IsLast, RunsSo, StopsBy, stop_status};
 
 use crate::opening::open_form;
 use crate::run::run_commands;
@@ -78,30 +78,12 @@ fn stopped<K: Sink>(stop: &Stop, out: &mut K) -> Status
     }
 }
 
-/// Runs the script on the file of this name.
-fn run_file<D: Disk, S: Source, K: Sink>(
-    alloc: Global,
-    name: &str,
-    disk: &mut D,
-    script: &mut S,
-    out: &mut K,
-) -> Status
-    requires fresh { D.called disk.old ≡ false }
-    requires label { IfSome (D.label disk.old) (λ known. name.now ≡ known) }
-    ensures performed { EndsPerformed first_rules (span S.Source D.Disk K.Sink (script.old, disk.old, out.old) (script.new, disk.new, out.new)) result }
-    ensures printed { EndsPrinted (span S.Source D.Disk K.Sink (script.old, disk.old, out.old) (script.new, disk.new, out.new)) result }
-    ensures script { EndsByScript first_rules (span S.Source D.Disk K.Sink (script.old, disk.old, out.old) (script.new, disk.new, out.new)) result }
-    ensures file { EndsByFile first_rules (span S.Source D.Disk K.Sink (script.old, disk.old, out.old) (script.new, disk.new, out.new)) result }
-    ensures run { EndsByRun first_rules (span S.Source D.Disk K.Sink (script.old, disk.old, out.old) (script.new, disk.new, out.new)) result }
-    ensures used { result ≢ Status.Usage }
-    ensures cause { result ≡ Status.Fault → AnyRose (rises (span S.Source D.Disk K.Sink (script.old, disk.old, out.old) (script.new, disk.new, out.new))) }
-    ensures untouched { result ≡ Status.Script → disk.new ≡ disk.old }
-    ensures label { D.label disk.new ≡ D.label disk.old }
-    ensures telling { is_some (D.files disk.new) ≡ is_some (D.files disk.old) }
-    ensures taken { IfTold (S.left script.old) (λ text. IsSomeAnd (S.left script.new) (IsFrontTaken text)) }
-    ensures later { NoneFell (span S.Source D.Disk K.Sink (script.old, disk.old, out.old) (script.new, disk.new, out.new)) }
+/// Ends a call that ran its commands or stopped, and gives its status.
+fn finish<K: Sink>(ran: Result<bool, Stop>, out: &mut K) -> Status
+    ensures ended { IsEnd (SinkFailed K.Sink out.old out.new) ran result (K.written out.old) (K.written out.new) }
+    ensures later { K.faults out.old ≤ K.faults out.new }
 {
-    match perform(alloc, name, disk, script, out) {
+    match ran {
         Ok(true) => Status::Done,
         Ok(false) => Status::Refused,
         Err(stop) => stopped(&stop, out),
@@ -153,6 +135,7 @@ pub fn sqlalter<D: Disk, S: Source, K: Sink>(
         let status = stopped(&Stop::Misused, out);
         return Ended { status, disk };
     };
-    let status = run_file(alloc, name, &mut disk, script, out);
+    let ran = perform(alloc, name, &mut disk, script, out);
+    let status = finish(ran, out);
     Ended { status, disk }
 }
