@@ -1,5 +1,5 @@
 -- What a crash may leave at each moment of several calls of a disk, at a bound `D: Disk`.
-use Rattle.std.specs.Prelude.{◌≡◌, ◌⊎◌, ◌≤◌, ℕ, List, Result, IsErrOf}
+use Rattle.std.specs.Prelude.{◌≡◌, ◌⊎◌, ◌≤◌, ℕ, List, Result, IsErrOf, is_some}
 use Rattle.alter_disk.specs.declared.way.Way.{Way}
 use Rattle.alter_disk.specs.declared.way.Way.TheVariants.{Read, Write}
 use Rattle.alter_disk.specs.declared.which.Which.{Which}
@@ -7,7 +7,6 @@ use Rattle.alter_disk.specs.declared.disk.Disk.{Ghosts}
 use Rattle.alter_disk.specs.Files.{Files, file, other_of}
 use Rattle.alter_disk.specs.Changes.{IfTold, ChangesOne}
 use Rattle.alter_disk.specs.Crash.{After, NoMore}
-use Rattle.alter_disk.specs.Rest.{KeepsRest}
 use Rattle.alter_disk.specs.Uses.{OnlyReads, ReadFailed, WriteFailed}
 
 -- a crash at any moment between two states leaves what it might have left before the first, or files of which P holds
@@ -35,6 +34,15 @@ pub record ReadsQuietly {D : Type 0} (disk : Ghosts D) (old new : D) : Type 0 wh
   pub only : OnlyReads disk old new
   pub crash : NoMore (disk.may_leave old) (disk.may_leave new)
   pub stops : Leaves disk old new (disk.may_leave old)
+
+-- calls of an opened disk left its label and its opening and told what was told, and no count of faults fell
+pub record Stays {D : Type 0} (disk : Ghosts D) (old new : D) : Type 0 where
+  pub label : disk.label new ≡ disk.label old
+  pub called : disk.called new ≡ disk.called old
+  pub opened : disk.opened new ≡ disk.opened old
+  pub telling : is_some (disk.files new) ≡ is_some (disk.files old)
+  pub reads : disk.read_faults old ≤ disk.read_faults new
+  pub writes : disk.write_faults old ≤ disk.write_faults new
 
 -- a failure that names its kind comes where a call of that kind failed
 pub record HasWay {D T : Type 0} (disk : Ghosts D) (old new : D) (result : Result T Way) : Type 0 where
