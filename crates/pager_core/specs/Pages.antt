@@ -1,5 +1,5 @@
 -- The pages of a file over its disk, as far as they are known.
-use Rattle.std.specs.Prelude.{◌≡◌, ◌≢◌, ◌≤◌, ℕ, ◌-◌, ◌*◌, Bool, true, false, List, [], ◌++◌, length, take, drop, replicate, Option, Some, IsSome, option_map, unwrap_or}
+use Rattle.std.specs.Prelude.{◌≡◌, ◌≢◌, ◌≤◌, ℕ, ◌-◌, ◌*◌, Bool, true, false, List, [], ◌++◌, length, take, drop, replicate, Option, Some, IsSome, IsSomeAnd, option_map, unwrap_or}
 use Rattle.std.specs.Option.{option_or}
 use Rattle.alter_bytes.specs.Field.{overlaid}
 use Rattle.alter_disk.specs.declared.disk.Disk.{Ghosts}
@@ -67,9 +67,13 @@ module _ {D : Type 0} where
   abbrev pub known : Ghosts D → Pages D → ℕ → Option (List ℕ)
   known disk pages n = option_or (shown pages n) (told disk pages n)
 
+  -- the bytes of a page that was read, without its changes
+  abbrev pub kept_original : Pages D → ℕ → Option (List ℕ)
+  kept_original pages n = original_in (slot_of pages.kept n)
+
   -- the page's bytes without its changes
   abbrev pub original : Ghosts D → Pages D → ℕ → Option (List ℕ)
-  original disk pages n = option_or (original_in (slot_of pages.kept n)) (told disk pages n)
+  original disk pages n = option_or (kept_original pages n) (told disk pages n)
 
   -- where the page stands in the database
   abbrev pub place_of : Pages D → ℕ → ℕ
@@ -105,6 +109,8 @@ pub record ChangesPage {D : Type 0} (disk : Ghosts D) (n at : ℕ) (piece : List
   pub bytes : (bytes : List ℕ) → known disk old n ≡ Some bytes → shown new n ≡ Some (overlaid bytes at piece)
   pub original : (bytes : List ℕ) → original disk old n ≡ Some bytes → original disk new n ≡ Some bytes
   pub changed : is_changed new n ≡ true
+  -- where it did not count as changed, its bytes before the piece are kept
+  pub first : is_changed old n ≡ false → IsSomeAnd (kept_original new n) (λ was. shown new n ≡ Some (overlaid was at piece))
   pub others : (m : ℕ) → m ≢ n → PageStays disk m old new
   pub reads : ReadsQuietly disk (disk_of old) (disk_of new)
 

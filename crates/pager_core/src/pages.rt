@@ -119,7 +119,7 @@ impl<D: Disk> Pages<D> {
         requires number { IsPage self.old n }
         ensures* after { sem 𝓛 (follows_so (the_row D.row) (the_row D.row) self.entry.ghost_name none (λ _ _. ⊤)
             (λ now. StayAll D.Disk self.old now × IfOk result (λ bytes. (shown now n ≡ Some bytes.now) × (length bytes.now ≡ (shape_of now).page))
-            × (IsSome (shown self.old n) → now ≡ self.old)
+            × OnErr result (KeepsNoMore self.old now) × (IsSome (shown self.old n) → now ≡ self.old)
             × (IsErrOf result PageError.Failed → ReadFailed D.Disk (disk_of self.old) (disk_of now)))) }
     {
         self.load(n)?;
