@@ -1,5 +1,4 @@
 pub mod ListLaws
-pub mod Loops
 pub mod NameLaws
 pub mod OperatorLaws
 pub mod WindowLaws

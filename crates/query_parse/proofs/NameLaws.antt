@@ -3,7 +3,8 @@ use Rattle.std.proofs.Common.{ℕ, List, Option, refl}
 use Rattle.std.specs.Prelude.{IfSome, codes}
 use Rattle.sql_token.specs.declared.token.Token.{Token}
 use Rattle.sql_token.specs.Fixed.{IsSign, IsName}
-use Rattle.sql_expr.specs.Tokens.{object_tokens, token_pair_tokens, maybe, one, commas_tokens, in_parens_tokens}
+use Rattle.sql_token.specs.Spelled.{one, maybe}
+use Rattle.sql_expr.specs.Tokens.{object_tokens, token_pair_tokens, commas_tokens, in_parens_tokens}
 use Rattle.sql_expr.specs.Rules.{IsObject, AreCommas, AreNames}
 use Rattle.sql_expr.specs.declared.lists.TokenPair.{TokenPair}
 use Rattle.sql_expr.specs.declared.lists.InParens.{InParens}

@@ -1,7 +1,7 @@
 //! Names of objects, and lists of names.
 
 ghost use Rattle.std.specs.Prelude.{◌≡◌};
-ghost use Rattle.sql_reader.specs.Cursor.{Gives};
+ghost use Rattle.sql_reader.specs.Cursor.{Gives, Finds};
 ghost use Rattle.query_parse.specs.Names.{read_qualifier, read_object, read_next_name, read_more_names, read_name_list, read_names};
 
 use sql_expr::{Commas, InParens, NextItem, Object, TokenPair};
@@ -13,7 +13,7 @@ use std::alloc::Global;
 /// `[name "."] name`
 #[tactic(auto, unfolding(crate::specs::Names::read_object))]
 pub fn object(cursor: &mut Cursor<'_>) -> Result<Object, ReadError>
-    ensures { Gives read_object result cursor.old cursor.new }
+    ensures { Finds read_object result cursor.old cursor.new }
 {
     let qualifier = qualifier(cursor)?;
     let name = cursor.name_before(Mark::Dot)?;
@@ -23,7 +23,7 @@ pub fn object(cursor: &mut Cursor<'_>) -> Result<Object, ReadError>
 /// `[name "."]`
 #[tactic(auto, unfolding(crate::specs::Names::read_qualifier))]
 fn qualifier(cursor: &mut Cursor<'_>) -> Result<Option<TokenPair>, ReadError>
-    ensures { Gives read_qualifier result cursor.old cursor.new }
+    ensures { Finds read_qualifier result cursor.old cursor.new }
 {
     if cursor.first().is_name() && cursor.second().is_sign(Mark::Dot) {
         let first = cursor.name()?;
@@ -61,7 +61,7 @@ fn name_list(alloc: Global, cursor: &mut Cursor<'_>) -> Result<Commas<Token>, Re
 /// `"," name`
 #[tactic(auto, unfolding(crate::specs::Names::read_next_name))]
 fn next_name(cursor: &mut Cursor<'_>) -> Result<NextItem<Token>, ReadError>
-    ensures { Gives read_next_name result cursor.old cursor.new }
+    ensures { Finds read_next_name result cursor.old cursor.new }
 {
     let comma = cursor.sign(Mark::Comma)?;
     let item = cursor.name()?;

@@ -3,7 +3,8 @@ use Rattle.std.proofs.Common.{◌≡◌, ◌++◌, ◌+◌, ◌<◌, ℕ, List, 
 use Rattle.std.specs.Prelude.{OnErr}
 use Rattle.std.proofs.lemmas.List.{append-nil, take_more, take-append-drop}
 use Rattle.sql_token.specs.declared.token.Token.{Token}
-use Rattle.sql_expr.specs.Tokens.{AddsFront, flat}
+use Rattle.sql_token.specs.Spelled.{flat}
+use Rattle.sql_expr.specs.Tokens.{AddsFront}
 
 -- nothing is a front
 pub front_none : (all old new : List Token) → new ≡ old → AddsFront all old new

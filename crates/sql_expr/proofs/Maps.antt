@@ -2,7 +2,8 @@ use Rattle.std.specs.Prelude.{List, [], ◌∷◌, ◌++◌, ◌≡◌, Option, 
 use mathlib.Core.Path.{refl}
 use mathlib.Core.Logic.{◌⊎◌, inl, inr}
 use Rattle.sql_token.specs.declared.token.Token.{Token}
-use Rattle.sql_expr.specs.Tokens.{action_tokens, after_tokens, alias_tokens, bound_tokens, by_tokens, call_arguments_tokens, call_tokens, case_tokens, cast_tokens, column_type_tokens, commas_tokens, cte_tokens, excluded_tokens, flat, frame_extent_tokens, frame_tokens, in_parens_tokens, join_constraint_tokens, limit_tokens, materialized_tokens, maybe, named_window_tokens, next_item_tokens, one, over_tokens, raise_action_tokens, raise_tokens, result_item_tokens, term_tokens, token_pair_tokens, values_row_tokens, when_tokens, window_tokens, with_tokens}
+use Rattle.sql_token.specs.Spelled.{one, maybe, flat}
+use Rattle.sql_expr.specs.Tokens.{action_tokens, after_tokens, alias_tokens, bound_tokens, by_tokens, call_arguments_tokens, call_tokens, case_tokens, cast_tokens, column_type_tokens, commas_tokens, cte_tokens, excluded_tokens, frame_extent_tokens, frame_tokens, in_parens_tokens, join_constraint_tokens, limit_tokens, materialized_tokens, named_window_tokens, next_item_tokens, over_tokens, raise_action_tokens, raise_tokens, result_item_tokens, term_tokens, token_pair_tokens, values_row_tokens, when_tokens, window_tokens, with_tokens}
 use Rattle.sql_expr.specs.declared.lists.After.{After}
 use Rattle.sql_expr.specs.declared.lists.InParens.{InParens}
 use Rattle.sql_expr.specs.declared.lists.NextItem.{NextItem}

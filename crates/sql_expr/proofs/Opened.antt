@@ -1,7 +1,8 @@
 use Rattle.std.specs.Prelude.{List, ◌++◌, ◌≡◌, Option}
 use mathlib.Core.Path.{refl, ap, sym, ◌∙◌}
 use Rattle.sql_token.specs.declared.token.Token.{Token}
-use Rattle.sql_expr.specs.Tokens.{after_tokens, alias_tokens, by_tokens, call_tokens, case_tokens, cast_tokens, column_use_tokens, commas_tokens, compound_tokens, flat, in_parens_tokens, indexing_tokens, infix_tokens, join_constraint_tokens, join_tokens, limit_tokens, literal_tokens, maybe, named_window_tokens, object_tokens, one, raise_tokens, result_item_tokens, term_tokens, values_row_tokens, with_tokens}
+use Rattle.sql_token.specs.Spelled.{one, maybe, flat}
+use Rattle.sql_expr.specs.Tokens.{after_tokens, alias_tokens, by_tokens, call_tokens, case_tokens, cast_tokens, column_use_tokens, commas_tokens, compound_tokens, in_parens_tokens, indexing_tokens, infix_tokens, join_constraint_tokens, join_tokens, limit_tokens, literal_tokens, named_window_tokens, object_tokens, raise_tokens, result_item_tokens, term_tokens, values_row_tokens, with_tokens}
 use Rattle.sql_expr.specs.Tree.{already, in_set_level, in_set_step, in_set_tokens, operand_level, operand_step, operand_tokens, postfix_level, postfix_step, postfix_tokens, arm_level, arm_step, arm_tokens, table_source_level, table_source_step, table_source_tokens, expr_level, expr_step, expr_tokens, infix_part_level, infix_part_step, infix_part_tokens, part_level, part_step, part_tokens, compound_arm_level, compound_arm_step, compound_arm_tokens, select_level, select_step, select_tokens, select_arm_level, select_arm_step, select_arm_tokens, joined_source_level, joined_source_step, joined_source_tokens, sources_level, sources_step, sources_tokens}
 use Rattle.sql_expr.proofs.Maps.{after-map, after_map, by-map, by_map, call-map, case-map, cast-map, commas-map, commas_map, flat-map, in_parens-map, join_constraint-map, join_constraint_map, limit-map, limit_map, maybe-map, named_window-map, named_window_map, option_map, raise-map, result_item-map, result_item_map, term-map, term_map, values_row-map, values_row_map, with-map, with_map}
 use Rattle.sql_expr.specs.declared.expr.InSet.{InSet, out-InSet, roll-InSet, out-roll-InSet}

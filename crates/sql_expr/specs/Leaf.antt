@@ -2,7 +2,6 @@
 use Rattle.std.specs.Prelude.{◌≡◌, ℕ, List, [], ◌∷◌, ◌⊎◌, IsTrue, codes}
 use Rattle.std.specs.List.{AllByRecursion}
 use Rattle.sql_token.specs.declared.token.Token.{Token}
-use Rattle.sql_token.specs.declared.token.TokenKind.{TokenKind}
 use Rattle.sql_token.specs.declared.token.TokenKind.TheVariants as Kind
 use Rattle.sql_token.specs.declared.keyword.Keyword.{Keyword}
 use Rattle.sql_token.specs.declared.keyword.Keyword.TheVariants as K
@@ -34,13 +33,6 @@ abbrev pub IsOperatorSign : List ℕ → Token → Type 0
 IsOperatorSign text t =
     (t.kind ≡ Kind.Op)
     × AllByRecursion (λ sign. IsSign text sign t → ⊥) (codes "(" ∷ codes ")" ∷ codes "," ∷ codes ";" ∷ codes "." ∷ [])
-
--- a number: an Int, a Hex or a Float
-abbrev pub IsNumberKind : TokenKind → Type 0
-IsNumberKind Kind.Int = Unit {0}
-IsNumberKind Kind.Hex = Unit {0}
-IsNumberKind Kind.Float = Unit {0}
-IsNumberKind _ = ⊥
 
 -- no word that may begin a join
 abbrev pub IsNoJoinWord : List ℕ → Token → Type 0

@@ -5,8 +5,9 @@ use Rattle.sql_token.specs.declared.token.Token.{Token}
 use Rattle.sql_token.specs.declared.token.TokenKind.TheVariants as Kind
 use Rattle.sql_token.specs.declared.keyword.Keyword.{Keyword}
 use Rattle.sql_token.specs.declared.keyword.Keyword.TheVariants as K
+use Rattle.sql_token.specs.Form.{IsNumberKind}
 use Rattle.sql_token.specs.Fixed.{IsFixed, IsSign, IsName}
-use Rattle.sql_expr.specs.Leaf.{IsOneOf, IsNoneOf, AreFixed, IsOperatorSign, IsNumberKind, IsBareAlias, IsTypeName, IsFreeOfGenerated, IsOperandName, IsColumnName, BeginsWithout}
+use Rattle.sql_expr.specs.Leaf.{IsOneOf, IsNoneOf, AreFixed, IsOperatorSign, IsBareAlias, IsTypeName, IsFreeOfGenerated, IsOperandName, IsColumnName, BeginsWithout}
 use Rattle.sql_expr.specs.Tokens.{commas_tokens}
 use Rattle.sql_expr.specs.Tree.{expr_tokens, part_tokens, select_tokens, sources_tokens}
 use Rattle.sql_expr.specs.Levels.{OpenInSet, OpenOperand, OpenPostfix, OpenArm, OpenTableSource, OpenSelectArm}

@@ -1,6 +1,7 @@
 -- What a tree of each rule spells, in order.
 use Rattle.std.specs.Prelude.{◌≡◌, List, [], ◌∷◌, ◌++◌, Option, Some, None}
 use Rattle.sql_token.specs.declared.token.Token.{Token}
+use Rattle.sql_token.specs.Spelled.{one, maybe, flat}
 use Rattle.sql_expr.specs.declared.lists.TokenPair.{TokenPair}
 use Rattle.sql_expr.specs.declared.lists.After.{After}
 use Rattle.sql_expr.specs.declared.lists.InParens.{InParens}
@@ -65,20 +66,6 @@ pub record AddsFront (spelled old new : List Token) : Type 0 where
   pub rest : List Token
   pub parts : spelled ≡ front ++ rest
   pub added : new ≡ old ++ front
-
--- what the items of a list spell, one behind the other
-abbrev pub flat : {A : Type 0} → (A → List Token) → List A → List Token
-flat f [] = []
-flat f (x ∷ xs) = f x ++ flat f xs
-
--- what an optional part spells: nothing where it is absent
-abbrev pub maybe : {A : Type 0} → (A → List Token) → Option A → List Token
-maybe f None = []
-maybe f (Some x) = f x
-
--- a leaf spells its token
-abbrev pub one : Token → List Token
-one token = token ∷ []
 
 -- Two fixed words, or a name and a dot.
 abbrev pub token_pair_tokens : TokenPair → List Token

@@ -1,6 +1,7 @@
 use Rattle.std.specs.Prelude.{List, ◌++◌}
 use Rattle.sql_token.specs.declared.token.Token.{Token}
-use Rattle.sql_expr.specs.Tokens.{after_tokens, alias_tokens, by_tokens, call_tokens, case_tokens, cast_tokens, column_use_tokens, commas_tokens, compound_tokens, flat, in_parens_tokens, indexing_tokens, infix_tokens, join_constraint_tokens, join_tokens, limit_tokens, literal_tokens, maybe, named_window_tokens, object_tokens, one, raise_tokens, result_item_tokens, term_tokens, values_row_tokens, with_tokens}
+use Rattle.sql_token.specs.Spelled.{one, maybe, flat}
+use Rattle.sql_expr.specs.Tokens.{after_tokens, alias_tokens, by_tokens, call_tokens, case_tokens, cast_tokens, column_use_tokens, commas_tokens, compound_tokens, in_parens_tokens, indexing_tokens, infix_tokens, join_constraint_tokens, join_tokens, limit_tokens, literal_tokens, named_window_tokens, object_tokens, raise_tokens, result_item_tokens, term_tokens, values_row_tokens, with_tokens}
 use Rattle.sql_expr.specs.declared.expr.InSet.{InSet}
 use Rattle.sql_expr.specs.declared.expr.Operand.{Operand}
 use Rattle.sql_expr.specs.declared.expr.Postfix.{Postfix}

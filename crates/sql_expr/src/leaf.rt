@@ -1,7 +1,8 @@
 //! What a token may be in a rule: the tests of leaves. Fixed words, signs and names are tested in `sql_token`.
 
 ghost use Rattle.std.specs.Prelude.{◌↔◌, IsTrue};
-ghost use Rattle.sql_expr.specs.Leaf.{IsOneOf, IsNoneOf, IsNumberKind, IsOperatorSign, IsNoJoinWord, IsBareAlias, IsTypeName, IsOperandName, IsColumnName};
+ghost use Rattle.sql_token.specs.Form.{IsNumberKind};
+ghost use Rattle.sql_expr.specs.Leaf.{IsOneOf, IsNoneOf, IsOperatorSign, IsNoJoinWord, IsBareAlias, IsTypeName, IsOperandName, IsColumnName};
 
 use sql_token::{Keyword, Token, TokenKind, fixed_word, is_fixed, is_name, is_sign};
 

@@ -82,7 +82,7 @@ pub fn tokens_of<T: Spelled>(alloc: Global, tree: &T) -> Result<Vec<Token>, Allo
 }
 
 impl Spelled for Token {
-    ghost use Rattle.sql_expr.specs.Tokens.{one};
+    ghost use Rattle.sql_token.specs.Spelled.{one};
 
     ghost spelled = { one };
 
@@ -110,7 +110,7 @@ impl<T: Spelled> Spelled for Boxed<T> {
 }
 
 impl<T: Spelled> Spelled for Option<T> {
-    ghost use Rattle.sql_expr.specs.Tokens.{maybe};
+    ghost use Rattle.sql_token.specs.Spelled.{maybe};
 
     ghost spelled = { maybe T.spelled };
 
@@ -124,7 +124,7 @@ impl<T: Spelled> Spelled for Option<T> {
 }
 
 impl<T: Spelled> Spelled for Items<T> {
-    ghost use Rattle.sql_expr.specs.Tokens.{flat};
+    ghost use Rattle.sql_token.specs.Spelled.{flat};
 
     ghost spelled = { flat T.spelled };
 

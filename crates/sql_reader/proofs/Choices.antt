@@ -5,7 +5,8 @@ use Rattle.std.specs.List.{AllByRecursion}
 use Rattle.sql_token.specs.declared.token.Token.{Token}
 use Rattle.sql_reader.specs.declared.sort.Sort.{Sort}
 use Rattle.sql_reader.specs.Looks.{looks, apart}
-use Rattle.sql_reader.specs.Reading.{Read, Reading, and_then, made_of, read_choice, read_opt, read_turns, read_many, choice, opt, many, maybe, flat}
+use Rattle.sql_token.specs.Spelled.{maybe, flat}
+use Rattle.sql_reader.specs.Reading.{Read, Reading, and_then, made_of, read_choice, read_opt, read_turns, read_many, choice, opt, many}
 use Rattle.sql_reader.proofs.Looks.{looks-left, looks-right, clear-left, clear-right, clear-apart}
 use Rattle.sql_reader.proofs.Outcomes.{same_outcome, then_parts, made_parts, then_is, made_is, then_alike, if_alike, reach, reach_and, reach_and_right}
 use Rattle.sql_reader.proofs.Laws.{Reads}

@@ -5,7 +5,8 @@ use Rattle.common_laws.proofs.Options.{chosen}
 use Rattle.sql_token.specs.declared.token.Token.{Token}
 use Rattle.sql_reader.specs.declared.sort.Sort.{Sort}
 use Rattle.sql_reader.specs.Looks.{Set, Look, looks, fits, within, next_sort, behind_next, none_of}
-use Rattle.sql_reader.specs.Reading.{Reading, made_of, read_leaf, read_leaf_before, read_seq, read_without, leaf_before, lead, begun, formed, without, widened, one, led_by, narrowed}
+use Rattle.sql_token.specs.Spelled.{one}
+use Rattle.sql_reader.specs.Reading.{Reading, made_of, read_leaf, read_leaf_before, read_seq, read_without, leaf_before, lead, begun, formed, without, widened, led_by, narrowed}
 use Rattle.sql_reader.proofs.Looks.{looks-within, clear-within, looks-led}
 use Rattle.sql_reader.proofs.Outcomes.{same_outcome, made_parts, made_is, if_alike}
 use Rattle.sql_reader.proofs.Laws.{Fits, Reads, leaf_reads, seq_complete, seq_reads}

@@ -5,7 +5,8 @@ use Rattle.common_laws.proofs.Options.{chosen}
 use Rattle.sql_token.specs.declared.token.Token.{Token}
 use Rattle.sql_reader.specs.declared.sort.Sort.{Sort}
 use Rattle.sql_reader.specs.Looks.{Set, looks, apart}
-use Rattle.sql_reader.specs.Reading.{Reading, made_of, read_leaf, read_seq, leaf, seq, one, only_if}
+use Rattle.sql_token.specs.Spelled.{one}
+use Rattle.sql_reader.specs.Reading.{Reading, made_of, read_leaf, read_seq, leaf, seq, only_if}
 use Rattle.sql_reader.proofs.Looks.{looks-left, looks-right, clear-left, clear-right, only_if-true, clear-apart}
 use Rattle.sql_reader.proofs.Outcomes.{same_outcome, then_parts, made_parts, then_is, made_is, then_alike, rest_at_most, reach, reach_and, reach_second}
 

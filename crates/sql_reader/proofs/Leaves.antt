@@ -8,6 +8,7 @@ use Rattle.sql_token.specs.declared.token.TokenKind.{TokenKind}
 use Rattle.sql_token.specs.declared.token.TokenKind.TheVariants as Kind
 use Rattle.sql_token.specs.declared.keyword.Keyword.{Keyword}
 use Rattle.sql_token.specs.Keyword.{is_reserved}
+use Rattle.sql_token.specs.Form.{IsNumberKind}
 use Rattle.sql_token.specs.Names.{folded, IsNameKind}
 use Rattle.sql_token.specs.Token.{span}
 use Rattle.sql_token.specs.Fixed.{IsFixed, IsSign, IsName}
@@ -178,18 +179,11 @@ any_sign_fits text = kind_fits text (λ k. k ≡ Kind.Op) any_sign to (λ k byte
     to Float here = absurd (cc)
     to End here = absurd (cc)
 
--- what a kind of numbers is
-abbrev pub IsOfNumbers : TokenKind → Type 0
-IsOfNumbers Kind.Int = Unit {0}
-IsOfNumbers Kind.Hex = Unit {0}
-IsOfNumbers Kind.Float = Unit {0}
-IsOfNumbers _ = ⊥
-
 -- a number
-pub number_fits : (text : List ℕ) → Fits (sort_of text) (λ t. IsOfNumbers t.kind) number
-number_fits text = kind_fits text IsOfNumbers number to back
+pub number_fits : (text : List ℕ) → Fits (sort_of text) (λ t. IsNumberKind t.kind) number
+number_fits text = kind_fits text IsNumberKind number to back
   where
-    to : (s : Sort) → number s ≡ true → IsOfNumbers (kind_of s)
+    to : (s : Sort) → number s ≡ true → IsNumberKind (kind_of s)
     to Int here = tt
     to Hex here = tt
     to Float here = tt
@@ -201,7 +195,7 @@ number_fits text = kind_fits text IsOfNumbers number to back
     to Blob here = absurd (cc)
     to End here = absurd (cc)
 
-    back : (kind : TokenKind) (bytes : List ℕ) → IsOfNumbers kind → number (sort_in kind bytes) ≡ true
+    back : (kind : TokenKind) (bytes : List ℕ) → IsNumberKind kind → number (sort_in kind bytes) ≡ true
     back Kind.Int bytes is = refl
     back Kind.Hex bytes is = refl
     back Kind.Float bytes is = refl

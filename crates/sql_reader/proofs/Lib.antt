@@ -4,6 +4,7 @@ pub mod Forms
 pub mod Laws
 pub mod Leaves
 pub mod Looks
+pub mod Loops
 pub mod Numbers
 pub mod Outcomes
 pub mod SortTests

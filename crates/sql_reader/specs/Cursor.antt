@@ -14,3 +14,10 @@ abbrev pub Gives : {A : Type 0} → ((Token → Sort) → Read A) → Result A R
 Gives read (Ok x) old new = (read (sort_of old.text) old.left ≡ Some (x, new.left)) × (new.text ≡ old.text)
 Gives read (Err (Memory fault)) old new = Unit {0}
 Gives read (Err Syntax) old new = read (sort_of old.text) old.left ≡ None
+
+-- A call that takes no memory finds this: what the reading function reads and the tokens behind it, or `Syntax` where it
+-- reads nothing. It never wants memory.
+abbrev pub Finds : {A : Type 0} → ((Token → Sort) → Read A) → Result A ReadError → Input → Input → Type 0
+Finds read (Ok x) old new = (read (sort_of old.text) old.left ≡ Some (x, new.left)) × (new.text ≡ old.text)
+Finds read (Err (Memory fault)) old new = ⊥
+Finds read (Err Syntax) old new = read (sort_of old.text) old.left ≡ None

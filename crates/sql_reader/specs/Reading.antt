@@ -191,17 +191,3 @@ sealed a read = record a { read = read }
 abbrev pub child : {sort : Token → Sort} {A : Type 0} → Look → Look → Read A → Reading sort A
 child starts goes_on read =
     record { starts = starts; goes_on = goes_on; nullable = false; guarded = false; read = read }
-
--- what a leaf spells
-abbrev pub one : Token → List Token
-one t = t ∷ []
-
--- what an optional part spells
-abbrev pub maybe : {A : Type 0} → (A → List Token) → Option A → List Token
-maybe f None = []
-maybe f (Some x) = f x
-
--- what the items of a list spell, one behind the other
-abbrev pub flat : {A : Type 0} → (A → List Token) → List A → List Token
-flat f [] = []
-flat f (x ∷ xs) = f x ++ flat f xs

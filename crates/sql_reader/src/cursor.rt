@@ -5,7 +5,7 @@ ghost use Rattle.sql_reader.specs.Sorts.{sort_of};
 ghost use Rattle.sql_reader.specs.Looks.{next_sort, behind_next, only, word, words, sign, name, number};
 ghost use Rattle.sql_reader.specs.Reading.{read_leaf, read_leaf_before};
 ghost use Rattle.sql_reader.specs.Input.{Input, first_sort, second_sort, third_sort};
-ghost use Rattle.sql_reader.specs.Cursor.{Gives};
+ghost use Rattle.sql_reader.specs.Cursor.{Finds};
 
 use crate::error::ReadError;
 use crate::sort::{Mark, Sort, sort_of};
@@ -83,7 +83,7 @@ impl<'a> Cursor<'a> {
 
     /// Takes the next token if the test of its sort, which was made before, says so.
     pub fn take_if(&mut self, fits: bool) -> Result<Token, ReadError>
-        ensures { Gives (λ sort. read_leaf sort (λ _. fits)) result self.old self.new }
+        ensures { Finds (λ sort. read_leaf sort (λ _. fits)) result self.old self.new }
     {
         if !fits {
             return Err(ReadError::Syntax);
@@ -93,7 +93,7 @@ impl<'a> Cursor<'a> {
 
     /// The fixed word.
     pub fn word(&mut self, keyword: Keyword) -> Result<Token, ReadError>
-        ensures { Gives (λ sort. read_leaf sort (word keyword)) result self.old self.new }
+        ensures { Finds (λ sort. read_leaf sort (word keyword)) result self.old self.new }
     {
         let fits = self.first.is_word(keyword);
         self.take_if(fits)
@@ -101,7 +101,7 @@ impl<'a> Cursor<'a> {
 
     /// One of the fixed words.
     pub fn words(&mut self, keywords: &[Keyword]) -> Result<Token, ReadError>
-        ensures { Gives (λ sort. read_leaf sort (words keywords.now)) result self.old self.new }
+        ensures { Finds (λ sort. read_leaf sort (words keywords.now)) result self.old self.new }
     {
         let fits = self.first.is_one_of(keywords);
         self.take_if(fits)
@@ -109,7 +109,7 @@ impl<'a> Cursor<'a> {
 
     /// The sign.
     pub fn sign(&mut self, mark: Mark) -> Result<Token, ReadError>
-        ensures { Gives (λ sort. read_leaf sort (sign mark)) result self.old self.new }
+        ensures { Finds (λ sort. read_leaf sort (sign mark)) result self.old self.new }
     {
         let fits = self.first.is_sign(mark);
         self.take_if(fits)
@@ -117,7 +117,7 @@ impl<'a> Cursor<'a> {
 
     /// A name.
     pub fn name(&mut self) -> Result<Token, ReadError>
-        ensures { Gives (λ sort. read_leaf sort name) result self.old self.new }
+        ensures { Finds (λ sort. read_leaf sort name) result self.old self.new }
     {
         let fits = self.first.is_name();
         self.take_if(fits)
@@ -125,7 +125,7 @@ impl<'a> Cursor<'a> {
 
     /// A name, where the sign does not stand behind it.
     pub fn name_before(&mut self, mark: Mark) -> Result<Token, ReadError>
-        ensures { Gives (λ sort. read_leaf_before sort name (sign mark)) result self.old self.new }
+        ensures { Finds (λ sort. read_leaf_before sort name (sign mark)) result self.old self.new }
     {
         let fits = self.first.is_name() && !self.second.is_sign(mark);
         self.take_if(fits)

@@ -5,4 +5,5 @@ pub mod Form
 pub mod Keyword
 pub mod Names
 pub mod Scan
+pub mod Spelled
 pub mod Token

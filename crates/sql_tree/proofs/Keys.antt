@@ -2,7 +2,8 @@
 use Rattle.std.proofs.Common.{◌≡◌, ◌++◌, ℕ, zero, suc, Bool, true, false, List, [], ◌∷◌, Option, Some, None, refl, sym, ap, ◌∙◌}
 use Rattle.sql_token.specs.declared.token.Token.{Token}
 use Rattle.sql_expr.specs.Levels.{OpenOperand}
-use Rattle.sql_expr.specs.Tokens.{commas_tokens, flat, next_item_tokens, one}
+use Rattle.sql_token.specs.Spelled.{one, flat}
+use Rattle.sql_expr.specs.Tokens.{commas_tokens, next_item_tokens}
 use Rattle.sql_expr.specs.Tree.{expr_tokens, infix_part_tokens, operand_level, postfix_tokens, select_tokens}
 use Rattle.sql_expr.proofs.Made.{alone, expr_levels}
 use Rattle.sql_expr.proofs.Opened.{made_expr, made_operand, made_part, opened_expr, opened_operand, opened_part}

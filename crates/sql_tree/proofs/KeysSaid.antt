@@ -9,7 +9,8 @@ use Rattle.sql_token.specs.declared.keyword.Keyword.TheVariants as K
 use Rattle.sql_expr.specs.Leaf.{BeginsWithout}
 use Rattle.sql_expr.specs.Levels.{OpenOperand, OpenPostfix}
 use Rattle.sql_expr.specs.Rules.{Inside, InsideAt, UsualAt, IsExprAt, IsPrefix, IsOperand, IsPostfix, IsInfixPart, IsExpr}
-use Rattle.sql_expr.specs.Tokens.{commas_tokens, flat, next_item_tokens}
+use Rattle.sql_token.specs.Spelled.{flat}
+use Rattle.sql_expr.specs.Tokens.{commas_tokens, next_item_tokens}
 use Rattle.sql_expr.specs.Tree.{expr_tokens}
 use Rattle.sql_expr.specs.declared.lists.Commas.{Commas}
 use Rattle.sql_expr.specs.declared.lists.InParens.{InParens}

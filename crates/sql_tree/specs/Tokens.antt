@@ -1,6 +1,7 @@
 use Rattle.std.specs.Prelude.{List, ◌++◌}
 use Rattle.sql_token.specs.declared.token.Token.{Token}
-use Rattle.sql_expr.specs.Tokens.{action_tokens, after_tokens, column_type_tokens, commas_tokens, flat, in_parens_tokens, literal_tokens, maybe, object_tokens, one, token_pair_tokens}
+use Rattle.sql_token.specs.Spelled.{one, maybe, flat}
+use Rattle.sql_expr.specs.Tokens.{action_tokens, after_tokens, column_type_tokens, commas_tokens, in_parens_tokens, literal_tokens, object_tokens, token_pair_tokens}
 use Rattle.sql_expr.specs.Tree.{expr_tokens, select_tokens, sources_tokens}
 use Rattle.sql_tree.specs.declared.conflict.Resolution.{Resolution}
 use Rattle.sql_tree.specs.declared.conflict.Resolution.TheVariants as Resolution'

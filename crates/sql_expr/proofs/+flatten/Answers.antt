@@ -2,7 +2,8 @@ use Rattle.std.proofs.Common.{◌++◌, ap, ◌∙◌}
 use Rattle.sql_expr.proofs.Fronts.{front_last, front_later, front_of, front_wider, fronts_of, on_err}
 use Rattle.sql_expr.proofs.Steps.{ends, joins, one_call}
 use Rattle.sql_expr.proofs.Opened.{arm_tokens-Select, arm_tokens-Values, in_set_tokens-Function, in_set_tokens-List, in_set_tokens-Object, in_set_tokens-Query, opened_compound_arm, opened_expr, opened_infix_part, opened_joined_source, opened_part, opened_select, opened_select_arm, opened_sources, operand_tokens-Call, operand_tokens-Case, operand_tokens-Cast, operand_tokens-Column, operand_tokens-Exprs, operand_tokens-Literal, operand_tokens-Raise, operand_tokens-Subquery, postfix_tokens-Collate, postfix_tokens-In, postfix_tokens-IsNull, postfix_tokens-NotNull, postfix_tokens-NotNullWords, table_source_tokens-Derived, table_source_tokens-Sources, table_source_tokens-Table, table_source_tokens-TableFunction}
-use Rattle.sql_expr.specs.Tokens.{after_tokens, alias_tokens, by_tokens, commas_tokens, flat, in_parens_tokens, indexing_tokens, join_constraint_tokens, join_tokens, limit_tokens, maybe, named_window_tokens, object_tokens, one, result_item_tokens, term_tokens, values_row_tokens, with_tokens}
+use Rattle.sql_token.specs.Spelled.{one, maybe, flat}
+use Rattle.sql_expr.specs.Tokens.{after_tokens, alias_tokens, by_tokens, commas_tokens, in_parens_tokens, indexing_tokens, join_constraint_tokens, join_tokens, limit_tokens, named_window_tokens, object_tokens, result_item_tokens, term_tokens, values_row_tokens, with_tokens}
 use Rattle.sql_expr.specs.Tree.{arm_tokens, compound_arm_tokens, expr_tokens, in_set_tokens, infix_part_tokens, joined_source_tokens, operand_tokens, part_tokens, postfix_tokens, select_tokens, sources_tokens, table_source_tokens}
 use Rattle.sql_expr.specs.declared.select.CompoundArm.{out-CompoundArm}
 use Rattle.sql_expr.specs.declared.expr.Expr.{out-Expr}

@@ -5,7 +5,7 @@ use Rattle.sql_reader.specs.Sorts.{sort_of}
 use Rattle.sql_reader.specs.Looks.{sign}
 use Rattle.sql_reader.specs.declared.sort.Mark.TheVariants.{Comma}
 use Rattle.query_parse.specs.Names.{read_next_name}
-use Rattle.query_parse.proofs.Loops.{Goes, goes_on, looks_one}
+use Rattle.sql_reader.proofs.Loops.{Goes, goes_on, looks_one}
 use Rattle.query_parse.proofs.NameLaws.{next_name_takes}
 use Rattle.query_parse.proofs.objects.more_names.Goals as goal
 

@@ -4,7 +4,7 @@ use Rattle.sql_expr.specs.declared.lists.NextItem.{NextItem}
 use Rattle.sql_reader.specs.Looks.{sign}
 use Rattle.sql_reader.specs.declared.sort.Mark.TheVariants.{Comma}
 use Rattle.query_parse.specs.Names.{read_next_name}
-use Rattle.query_parse.proofs.Loops.{Goes}
+use Rattle.sql_reader.proofs.Loops.{Goes}
 use Rattle.query_parse.proofs.objects.more_names.Given as goal
 
 -- the names that are read, before those that are left, are the whole

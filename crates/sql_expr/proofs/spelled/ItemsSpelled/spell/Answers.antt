@@ -1,5 +1,5 @@
 use Rattle.std.proofs.Common.{ap, sym}
-use Rattle.sql_expr.specs.Tokens.{flat}
+use Rattle.sql_token.specs.Spelled.{flat}
 use Rattle.sql_expr.proofs.Fronts.{front_of, front_of_item, item_added, on_err}
 use Rattle.sql_expr.proofs.spelled.ItemsSpelled.spell.Goals as goal
 

@@ -1,5 +1,5 @@
 use Rattle.std.proofs.Common.{◌≡◌, ◌++◌, take}
-use Rattle.sql_expr.specs.Tokens.{flat}
+use Rattle.sql_token.specs.Spelled.{flat}
 use Rattle.sql_expr.proofs.spelled.ItemsSpelled.spell.Given as goal
 
 -- what the items so far spell was added
