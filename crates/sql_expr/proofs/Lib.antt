@@ -1,4 +1,5 @@
 pub mod Fronts
+pub mod Heights
 pub mod Joined
 pub mod Leaves
 pub mod Made
