@@ -2,7 +2,7 @@
 use Rattle.std.proofs.Common.{◌≡◌, List, [], ◌∷◌, ◌++◌, replicate, take, refl}
 use Rattle.rollback_journal.specs.declared.header.Header.{Header}
 use Rattle.rollback_journal.specs.Header.{bytes_of, magic}
-use Rattle.rollback_journal.specs.Records.{entries_from, entries_of}
+use Rattle.rollback_journal.specs.Records.{entries_from, entries_of, verdict_of}
 use Rattle.rollback_journal.specs.Playback.{played, first_missing}
 use Rattle.rollback_journal.specs.Standing.{Stands, IsShort, IsSuper, standing}
 use Rattle.std.specs.Prelude.{ℕ, true}
@@ -22,7 +22,7 @@ half_right = bytes_of (two_records 2) true ++ replicate 484 0 ++ (0 ∷ 0 ∷ 0 
 
 -- the record that is right is played, and playback ends before the other
 half : entries_of half_right (two_records 2) ≡ record { page = 2; bytes = nines } ∷ []
-unfolding entries_from
+unfolding entries_from verdict_of
 half = refl
 
 -- three pages, of which the second is damaged
@@ -31,7 +31,7 @@ damaged = replicate 512 1 ++ replicate 512 2 ++ replicate 512 3
 
 -- page 1 stays, page 2 is restored, and the third page goes
 restored : standing (record { db = damaged; journal = half_right }) ≡ Stands (replicate 512 1 ++ nines)
-unfolding entries_from played first_missing ones
+unfolding entries_from verdict_of played first_missing ones
 restored = refl
 
 -- a journal without a record is cold, and the database is taken as it is
@@ -44,7 +44,7 @@ abbrev one_of_three : List ℕ
 one_of_three = bytes_of (two_records 3) true ++ replicate 484 0 ++ (0 ∷ 0 ∷ 0 ∷ 1 ∷ []) ++ nines ++ (0 ∷ 0 ∷ 0 ∷ 0x10 ∷ [])
 
 third : standing (record { db = take 1024 damaged; journal = one_of_three }) ≡ IsShort 3
-unfolding entries_from played first_missing ones
+unfolding entries_from verdict_of played first_missing ones
 third = refl
 
 -- the same ending in the magic names a super-journal

@@ -1,4 +1,5 @@
 pub mod Checksum
+pub mod Cursor
 pub mod Header
 pub mod Heat
 pub mod Playback

@@ -21,7 +21,7 @@ page_in h bytes = take h.page (drop 4 bytes)
 
 -- what playback does with a record, by its bytes as far as the journal has them: it ends where they are not all there, at
 -- the number 0 and at a wrong checksum; a page past the database's size is skipped, whatever its checksum
-abbrev pub verdict_of : Header → ℕ → List ℕ → Verdict
+unfoldable pub verdict_of : Header → ℕ → List ℕ → Verdict
 verdict_of h nonce bytes =
     if nat_lt (length bytes) (record_len h) then End
     else (if number_at bytes 0 == 0 then End
@@ -36,9 +36,9 @@ records_in len count = if count == 2 ^ 32 - 1 then len else count
 abbrev pub next_sector : ℕ → ℕ → ℕ
 next_sector sector at = (at + (sector - 1)) / sector * sector
 
--- whether a later segment's header stands in front of these bytes: of its fields only magic, count and nonce count
-abbrev pub has_header : List ℕ → Bool
-has_header bytes = nat_le 28 (length bytes) && has_magic bytes
+-- whether these bytes, of which a header has 28, begin a later segment: of its fields only magic, count and nonce count
+abbrev pub is_segment : List ℕ → Bool
+is_segment bytes = nat_le 28 (length bytes) && has_magic bytes
 
 -- The entries that playback takes, from a place of the journal on: of this segment so many records are left, with this nonce.
 -- Where none is left, the next segment's header is looked for at the next multiple of the sector size, and its records follow
@@ -47,8 +47,8 @@ unfoldable pub entries_from : ℕ → List ℕ → Header → (nonce left at : �
 entries_from zero journal h nonce left at = []
 entries_from (suc fuel) journal h nonce zero at =
     let head = next_sector h.sector at in
-    let bytes = drop head journal in
-    elim (has_header bytes) [
+    let bytes = take 28 (drop head journal) in
+    elim (is_segment bytes) [
       | true ↦ entries_from fuel journal h (number_at bytes 12) (records_in (length journal) (number_at bytes 8)) (head + h.sector)
       | false ↦ []
     ]

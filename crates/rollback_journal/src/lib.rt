@@ -1,6 +1,7 @@
 //! The rollback journal: its header, whether it is hot, and the checksum of its records.
 #![tactic(auto)]
 
+mod cursor;
 mod header;
 mod heat;
 mod reads;

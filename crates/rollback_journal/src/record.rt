@@ -1,6 +1,6 @@
 //! The records of a journal.
 ghost use Rattle.std.specs.Prelude.{◌≡◌, ◌≤◌, ◌+◌, length};
-ghost use Rattle.rollback_journal.specs.Records.{record_len, verdict_of};
+ghost use Rattle.rollback_journal.specs.Records.{record_len, records_in, verdict_of};
 
 use crate::header::Header;
 use crate::sum::checksum;
@@ -24,7 +24,15 @@ pub(crate) fn record_len(h: &Header) -> usize
     h.page as usize + 8
 }
 
+/// How many records a header's count stands for in a journal of this length.
+pub(crate) fn records_in(len: u64, count: u32) -> u64
+    ensures { result ≡ records_in len count }
+{
+    if count == u32::MAX { len } else { count as u64 }
+}
+
 /// What playback does with the record of these bytes.
+#[tactic(auto, unfolding(crate::specs::Records::verdict_of))]
 pub(crate) fn judge(h: &Header, nonce: u32, bytes: &[u8]) -> Verdict
     ensures { result ≡ verdict_of h.now nonce bytes.now }
 {
