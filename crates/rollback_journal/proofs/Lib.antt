@@ -1,3 +1,4 @@
+pub mod Marked
 pub mod Cursors
 pub mod Examples
 pub mod FilePages

@@ -4,4 +4,5 @@ pub mod Header
 pub mod Heat
 pub mod Playback
 pub mod Records
+pub mod Recovery
 pub mod Standing

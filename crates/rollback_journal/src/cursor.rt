@@ -9,6 +9,7 @@ use alter_bytes::u32_at;
 use alter_disk::{Disk, Failed};
 
 /// A place in a journal up to which it was played. One record is in memory at a time.
+#[derive(Drop)]
 pub(crate) struct Cursor {
     header: Header,
     /// The journal's length in bytes.

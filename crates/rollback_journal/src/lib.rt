@@ -1,7 +1,9 @@
 //! The rollback journal: its header, whether it is hot, and the checksum of its records.
 #![tactic(auto)]
 
+mod coverage;
 mod cursor;
+mod fault;
 mod header;
 mod heat;
 mod reads;
@@ -10,6 +12,7 @@ mod sum;
 #[cfg(test)]
 mod tests;
 
+pub use fault::RecoverFault;
 pub use header::{Header, header_bytes, read_header};
 pub use heat::{Heat, hot};
 pub use sum::checksum;

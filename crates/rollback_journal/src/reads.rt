@@ -17,6 +17,16 @@ pub(crate) fn journal_len<D: Disk>(disk: &mut D) -> Result<u64, Failed>
     disk.len(Which::Journal)
 }
 
+/// The length of the database.
+pub(crate) fn db_len<D: Disk>(disk: &mut D) -> Result<u64, Failed>
+    requires { D.called disk.old ≡ true }
+    ensures len { IfOk result (λ n. (f : Files) → D.files disk.old ≡ Some f → n ≡ length f.db) }
+    ensures reads { ReadsQuietly D.Disk disk.old disk.new }
+    ensures cause { HasCause (D.read_faults disk.old) (D.read_faults disk.new) result }
+{
+    disk.len(Which::Db)
+}
+
 /// Reads bytes of the journal, and answers how many came: fewer than asked only at its end.
 pub(crate) fn read_journal<D: Disk>(disk: &mut D, at: u64, buf: &mut [u8]) -> Result<usize, Failed>
     requires called { D.called disk.old ≡ true }

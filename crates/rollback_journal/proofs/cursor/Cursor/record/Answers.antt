@@ -1,4 +1,4 @@
-use Rattle.std.proofs.Common.{◌≡◌, ℕ, ◌+◌, ◌≤◌, ◌<◌, ◌-◌, List, length, take, drop, sym, ap, ◌∙◌, arith}
+use Rattle.std.proofs.Common.{◌≡◌, ℕ, ◌+◌, ◌-◌, List, length, take, drop, sym, ap, ◌∙◌, arith}
 use Rattle.rollback_journal.specs.Records.{record_len, entries_from}
 use Rattle.rollback_journal.proofs.Cursors.{record_none, record_some, record_step, step_passes, names_page, read_whole}
 use Rattle.rollback_journal.proofs.cursor.Cursor.record.Goals as goal

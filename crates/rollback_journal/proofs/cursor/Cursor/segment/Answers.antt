@@ -1,4 +1,4 @@
-use Rattle.std.proofs.Common.{◌≡◌, ℕ, ◌+◌, ◌≤◌, ◌<◌, Bool, true, false, List, length, take, drop, nat_le, sym, ap, ap₂, ◌∙◌, arith}
+use Rattle.std.proofs.Common.{◌≡◌, ℕ, ◌+◌, true, false, List, length, take, drop, nat_le, sym, ap, ap₂, ◌∙◌, arith}
 use Rattle.std.proofs.lemmas.Bool.{and_right, and_from, le-leb}
 use Rattle.rollback_journal.specs.Header.{has_magic, number_at}
 use Rattle.rollback_journal.specs.Records.{next_sector, records_in, is_segment, entries_from}

@@ -1,0 +1,41 @@
+-- What a recovery answers and leaves.
+use Rattle.std.specs.Prelude.{◌≡◌, ℕ, ◌+◌, ◌<◌, Bool, false, ◌||◌, List, length, slice_index_or, is_some, None, Result, IsErrOf}
+use Rattle.alter_disk.specs.declared.way.Way.TheVariants.{Read, Write}
+use Rattle.alter_disk.specs.declared.disk.Disk.{Ghosts}
+use Rattle.alter_disk.specs.Files.{Files}
+use Rattle.alter_disk.specs.Uses.{ReadFailed, WriteFailed}
+use Rattle.rollback_journal.specs.declared.fault.RecoverFault.{RecoverFault}
+use Rattle.rollback_journal.specs.declared.fault.RecoverFault.TheVariants.{Memory, Failed, Super, Short, TooLarge}
+use Rattle.rollback_journal.specs.declared.heat.Heat.TheVariants.{Hot}
+use Rattle.rollback_journal.specs.declared.header.Header.{Header}
+use Rattle.rollback_journal.specs.Heat.{heat_of}
+use Rattle.rollback_journal.specs.Records.{Entry, entries_of}
+use Rattle.rollback_journal.specs.Playback.{last_entry, first_missing}
+use Rattle.rollback_journal.specs.Standing.{is_too_large, standing, IsSuper, IsShort, IsTooLarge}
+
+-- of pages with a mark each, page i + 1 at index i, those are marked that have an entry, and those that were
+abbrev pub Marks : List Entry → List Bool → List Bool → Type 0
+Marks entries old new = (i : ℕ) → i < length new → slice_index_or new i false ≡ (slice_index_or old i false || is_some (last_entry entries (i + 1)))
+
+-- the marks are those of the entries
+abbrev pub IsMarked : List Entry → List Bool → Type 0
+IsMarked entries marks = (i : ℕ) → i < length marks → slice_index_or marks i false ≡ is_some (last_entry entries (i + 1))
+
+-- a refusal is what two files stand for; want of memory and failures are free here
+abbrev pub IsRefusal : Files → RecoverFault → Type 0
+IsRefusal f (Memory e) = Unit {0}
+IsRefusal f (Failed way) = Unit {0}
+IsRefusal f Super = standing f ≡ IsSuper
+IsRefusal f (Short n) = standing f ≡ IsShort n
+IsRefusal f TooLarge = standing f ≡ IsTooLarge
+
+-- a failure comes where a call of its kind failed
+pub record HasCauses {D T : Type 0} (disk : Ghosts D) (old new : D) (result : Result T RecoverFault) : Type 0 where
+  pub reading : IsErrOf result (Failed Read) → ReadFailed disk old new
+  pub writing : IsErrOf result (Failed Write) → WriteFailed disk old new
+
+-- a hot journal is within the limits, and playback knows each page up to the size
+pub record IsPlayable (f : Files) (h : Header) : Type 0 where
+  pub hot : heat_of f.journal ≡ Hot h
+  pub within : is_too_large (length f.journal) h ≡ false
+  pub complete : first_missing h.page h.size (entries_of f.journal h) f.db ≡ None
