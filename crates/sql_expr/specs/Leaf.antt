@@ -34,11 +34,11 @@ IsOperatorSign text t =
     (t.kind ≡ Kind.Op)
     × AllByRecursion (λ sign. IsSign text sign t → ⊥) (codes "(" ∷ codes ")" ∷ codes "," ∷ codes ";" ∷ codes "." ∷ [])
 
--- no word that may begin a join
+-- no join word
 abbrev pub IsNoJoinWord : List ℕ → Token → Type 0
 IsNoJoinWord text t = (keyword : Keyword) → IsTrue (is_join_word keyword) → IsFixed text keyword t → ⊥
 
--- an alias without AS: a name, but no word that may begin a join or go on behind an expression
+-- an alias without AS: a name, but no join word and no word that may go on behind an expression
 abbrev pub IsBareAlias : List ℕ → Token → Type 0
 IsBareAlias text t =
     IsName text t × IsNoJoinWord text t

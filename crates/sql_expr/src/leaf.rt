@@ -44,7 +44,7 @@ pub fn is_operator_sign(text: &[u8], token: &Token) -> bool
         && !is_sign(text, b".", token)
 }
 
-/// Whether the token is no word that may begin a join.
+/// Whether the token is no join word.
 pub fn is_no_join_word(text: &[u8], token: &Token) -> bool
     ensures { IsTrue result ↔ IsNoJoinWord text.now token.now }
 {

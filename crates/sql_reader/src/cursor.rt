@@ -1,6 +1,6 @@
 //! A cursor over the tokens of a text that are left.
 
-ghost use Rattle.std.specs.Prelude.{◌≡◌, [], ◌∷◌, drop, MatchOption};
+ghost use Rattle.std.specs.Prelude.{◌≡◌, [], ◌∷◌, drop, MatchOption, OnErr};
 ghost use Rattle.sql_reader.specs.Sorts.{sort_of};
 ghost use Rattle.sql_reader.specs.Looks.{next_sort, behind_next, only, word, words, sign, name, number};
 ghost use Rattle.sql_reader.specs.Reading.{read_leaf, read_leaf_before};
@@ -70,7 +70,7 @@ impl<'a> Cursor<'a> {
 
     /// Takes the next token, if there is one.
     pub fn take(&mut self) -> Option<Token>
-        ensures taken { MatchOption result (self.old.left ≡ []) (λ token. self.old.left ≡ token ∷ self.new.left) }
+        ensures taken { MatchOption result ((self.old.left ≡ []) × (self.new.left ≡ [])) (λ token. self.old.left ≡ token ∷ self.new.left) }
         ensures text { self.new.text ≡ self.old.text }
     {
         let (token, left) = self.left.split_first()?;
@@ -83,7 +83,8 @@ impl<'a> Cursor<'a> {
 
     /// Takes the next token if the test of its sort, which was made before, says so.
     pub fn take_if(&mut self, fits: bool) -> Result<Token, ReadError>
-        ensures { Finds (λ sort. read_leaf sort (λ _. fits)) result self.old self.new }
+        ensures found { Finds (λ sort. read_leaf sort (λ _. fits)) result self.old self.new }
+        ensures kept { OnErr result (self.new ≡ self.old) }
     {
         if !fits {
             return Err(ReadError::Syntax);
@@ -93,7 +94,8 @@ impl<'a> Cursor<'a> {
 
     /// The fixed word.
     pub fn word(&mut self, keyword: Keyword) -> Result<Token, ReadError>
-        ensures { Finds (λ sort. read_leaf sort (word keyword)) result self.old self.new }
+        ensures found { Finds (λ sort. read_leaf sort (word keyword)) result self.old self.new }
+        ensures kept { OnErr result (self.new ≡ self.old) }
     {
         let fits = self.first.is_word(keyword);
         self.take_if(fits)
@@ -101,7 +103,8 @@ impl<'a> Cursor<'a> {
 
     /// One of the fixed words.
     pub fn words(&mut self, keywords: &[Keyword]) -> Result<Token, ReadError>
-        ensures { Finds (λ sort. read_leaf sort (words keywords.now)) result self.old self.new }
+        ensures found { Finds (λ sort. read_leaf sort (words keywords.now)) result self.old self.new }
+        ensures kept { OnErr result (self.new ≡ self.old) }
     {
         let fits = self.first.is_one_of(keywords);
         self.take_if(fits)
@@ -109,7 +112,8 @@ impl<'a> Cursor<'a> {
 
     /// The sign.
     pub fn sign(&mut self, mark: Mark) -> Result<Token, ReadError>
-        ensures { Finds (λ sort. read_leaf sort (sign mark)) result self.old self.new }
+        ensures found { Finds (λ sort. read_leaf sort (sign mark)) result self.old self.new }
+        ensures kept { OnErr result (self.new ≡ self.old) }
     {
         let fits = self.first.is_sign(mark);
         self.take_if(fits)
@@ -117,7 +121,8 @@ impl<'a> Cursor<'a> {
 
     /// A name.
     pub fn name(&mut self) -> Result<Token, ReadError>
-        ensures { Finds (λ sort. read_leaf sort name) result self.old self.new }
+        ensures found { Finds (λ sort. read_leaf sort name) result self.old self.new }
+        ensures kept { OnErr result (self.new ≡ self.old) }
     {
         let fits = self.first.is_name();
         self.take_if(fits)
@@ -125,7 +130,8 @@ impl<'a> Cursor<'a> {
 
     /// A name, where the sign does not stand behind it.
     pub fn name_before(&mut self, mark: Mark) -> Result<Token, ReadError>
-        ensures { Finds (λ sort. read_leaf_before sort name (sign mark)) result self.old self.new }
+        ensures found { Finds (λ sort. read_leaf_before sort name (sign mark)) result self.old self.new }
+        ensures kept { OnErr result (self.new ≡ self.old) }
     {
         let fits = self.first.is_name() && !self.second.is_sign(mark);
         self.take_if(fits)

@@ -216,7 +216,7 @@ is_reserved When = true
 is_reserved Where = true
 is_reserved _ = false
 
--- the word may begin a join, so it is no alias
+-- a join word: it stands in a join or begins INDEXED BY, so it is no alias without AS and no name in a type
 abbrev pub is_join_word : Keyword → Bool
 is_join_word Cross = true
 is_join_word Full = true

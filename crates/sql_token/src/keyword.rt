@@ -166,7 +166,7 @@ pub enum Keyword {
 pub enum Role {
     /// A name.
     Name,
-    /// A name, but no alias, since it may begin a join.
+    /// A name, but no alias without AS and no name in a type, since it may stand in a join or begin INDEXED BY.
     JoinWord,
     /// Nothing.
     Reserved,
@@ -359,7 +359,7 @@ impl Keyword {
         matches!(self.entry().1, Role::Reserved)
     }
 
-    /// Whether the word may begin a join, so that it is no alias.
+    /// Whether the word is a join word: no alias without AS and no name in a type.
     pub fn is_join_word(self) -> bool
         ensures { result ≡ is_join_word self }
     {
