@@ -68,29 +68,29 @@ pub record Wider (inside other : Inside) : Type 0 where
 
 -- ---- parts that many rules have
 
-some_more : {A : Type 0} {P Q : A → Type 0} → ((a : A) → P a → Q a) → (o : Option A) → IfSome o P → IfSome o Q
+pub some_more : {A : Type 0} {P Q : A → Type 0} → ((a : A) → P a → Q a) → (o : Option A) → IfSome o P → IfSome o Q
 some_more more None h = tt
 some_more more (Some a) h = more a h
 
-all_more : {A : Type 0} {P Q : A → Type 0} → ((a : A) → P a → Q a) → (xs : List A) → AllByRecursion P xs → AllByRecursion Q xs
+pub all_more : {A : Type 0} {P Q : A → Type 0} → ((a : A) → P a → Q a) → (xs : List A) → AllByRecursion P xs → AllByRecursion Q xs
 all_more more [] h = tt
 all_more more (x ∷ xs) h = (more x h.0, all_more more xs h.1)
 
 module _ (text : List ℕ) where
-  in_parens_more : {A : Type 0} {P Q : A → Type 0} → ((a : A) → P a → Q a) → (x : InParens A) → IsInParens text P x → IsInParens text Q x
+  pub in_parens_more : {A : Type 0} {P Q : A → Type 0} → ((a : A) → P a → Q a) → (x : InParens A) → IsInParens text P x → IsInParens text Q x
   in_parens_more more x h = (h.0, more x.inner h.1, h.2)
 
-  commas_more : {A : Type 0} {P Q : A → Type 0} → ((a : A) → P a → Q a) → (x : Commas A) → AreCommas text P x → AreCommas text Q x
+  pub commas_more : {A : Type 0} {P Q : A → Type 0} → ((a : A) → P a → Q a) → (x : Commas A) → AreCommas text P x → AreCommas text Q x
   commas_more {A} {P} {Q} more x h =
       let next_more : (next : NextItem A) → IsSign text (codes ",") next.comma × P next.item → IsSign text (codes ",") next.comma × Q next.item =
       λ next k. (k.0, more next.item k.1) in
       (more x.first h.0, all_more next_more x.more h.1)
 
-  after_more : (keyword : Keyword) {A : Type 0} {P Q : A → Type 0} → ((a : A) → P a → Q a) → (x : After A) → IsAfter text keyword P x
+  pub after_more : (keyword : Keyword) {A : Type 0} {P Q : A → Type 0} → ((a : A) → P a → Q a) → (x : After A) → IsAfter text keyword P x
       → IsAfter text keyword Q x
   after_more keyword more x h = (h.0, more x.part h.1)
 
-  by_more : (keyword : Keyword) {A : Type 0} {P Q : A → Type 0} → ((a : A) → P a → Q a) → (x : By A) → IsBy text keyword P x
+  pub by_more : (keyword : Keyword) {A : Type 0} {P Q : A → Type 0} → ((a : A) → P a → Q a) → (x : By A) → IsBy text keyword P x
       → IsBy text keyword Q x
   by_more keyword more x h = (h.0, h.1, commas_more more x.items h.2)
 

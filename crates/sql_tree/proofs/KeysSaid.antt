@@ -6,7 +6,7 @@ use Rattle.std.specs.List.{AllByRecursion}
 use Rattle.sql_token.specs.declared.token.Token.{Token}
 use Rattle.sql_token.specs.declared.token.TokenKind.TheVariants as Kind
 use Rattle.sql_token.specs.declared.keyword.Keyword.TheVariants as K
-use Rattle.sql_expr.specs.Leaf.{BeginsWithout}
+use Rattle.sql_expr.specs.Leaf.{BeginsWithout, IsColumnName}
 use Rattle.sql_expr.specs.Levels.{OpenOperand, OpenPostfix}
 use Rattle.sql_expr.specs.Rules.{Inside, InsideAt, UsualAt, IsExprAt, IsPrefix, IsOperand, IsPostfix, IsInfixPart, IsExpr}
 use Rattle.sql_token.specs.Spelled.{flat}
@@ -25,6 +25,7 @@ use Rattle.sql_expr.specs.declared.expr.Postfix.{Postfix, out-Postfix}
 use Rattle.sql_expr.specs.declared.expr.InSet.TheOpen.{Operand-F, Postfix-F}
 use Rattle.sql_tree.specs.Keys.{after_postfix, after_postfixes, and_then, operand_of, with_operand, with_first, left_of, left_inside, key_operand, key_inside, as_key_with, as_key}
 use Rattle.sql_tree.specs.Rules.{IsKeyExpr}
+use Rattle.sql_expr.proofs.Heights.{inside_more, higher}
 use Rattle.sql_tree.proofs.Keys.{operand_with, kept_with}
 
 abbrev IsCollate : OpenPostfix → Type 0
@@ -474,3 +475,44 @@ key_said text n x = (to, from)
     from : IsStrKey text n x ⊎ (IsExprAt text n x × NoText 1 x) → IsKeyExpr text n x
     from (inl str) = read_back text n str.0 1 x str.1 str.2 str.3
     from (inr usual) = (x, usual.0, stayed usual.1 (becomes text n 1 x usual.0))
+
+-- ---- keys by height, and the rule of a key
+
+-- parentheses round one expression of which more is asked
+holds_more : (P Q : Expr → Type 0) → ((y : Expr) → P y → Q y) → (o : OpenOperand) → HoldsOne P o → HoldsOne Q o
+holds_more P Q more (Operand-F.Exprs x) h = (h.0, more x.inner.first h.1)
+holds_more P Q more _ h = absurd h
+
+-- such an operand is one at a greater height
+alone_more : (P : OpenOperand → Type 0) (n m collates : ℕ) (x : Expr) → n ≤ m → IsAloneAt P n collates x → IsAloneAt P m collates x
+alone_more P zero m collates x fewer h = absurd h
+alone_more P (suc n) zero collates x fewer h = absurd (omega arith)
+alone_more P (suc n) (suc m) collates x fewer h =
+    (h.0, h.1, h.2, h.3, h.4, h.5, either (λ y k. alone_more P n m h.4 y (omega arith) k) h.6)
+  where
+    either : ((y : Expr) → IsAloneAt P n h.4 y → IsAloneAt P m h.4 y)
+        → ((h.4 ≡ 0) × P (operand_of x)) ⊎ HoldsOne (IsAloneAt P n h.4) (operand_of x)
+        → ((h.4 ≡ 0) × P (operand_of x)) ⊎ HoldsOne (IsAloneAt P m h.4) (operand_of x)
+    either more (inl a) = inl a
+    either more (inr a) = inr (holds_more (IsAloneAt P n h.4) (IsAloneAt P m h.4) more (operand_of x) a)
+
+-- a key is one at a greater height
+pub key_higher : (text : List ℕ) (n m : ℕ) (x : Expr) → n ≤ m → IsKeyExpr text n x → IsKeyExpr text m x
+key_higher text n m x fewer key = (key_said text m x).1 (either ((key_said text n x).0 key))
+  where
+    either : IsStrKey text n x ⊎ (IsExprAt text n x × NoText 1 x) → IsStrKey text m x ⊎ (IsExprAt text m x × NoText 1 x)
+    either (inl str) =
+        inl (str.0, str.1, alone_more IsStrColumn n m str.0 x fewer str.2, (inside_more text (λ t h. h) n m fewer).expr x str.3)
+    either (inr usual) = inr ((higher text n m fewer).expr x usual.0, usual.1)
+
+-- a column's name that stands alone in a key: also a Str
+abbrev pub IsKeyColumn : List ℕ → Token → Type 0
+IsKeyColumn text t = (t.kind ≡ Kind.Str) ⊎ IsColumnName text t
+
+-- a key is of the rule of expressions, where a Str may be a column's name as well
+pub key_ruled : (text : List ℕ) (n : ℕ) (x : Expr) → IsKeyExpr text n x → (InsideAt text (IsKeyColumn text) n).expr x
+key_ruled text n x key = either ((key_said text n x).0 key)
+  where
+    either : IsStrKey text n x ⊎ (IsExprAt text n x × NoText 1 x) → (InsideAt text (IsKeyColumn text) n).expr x
+    either (inl str) = (inside_more text (λ t h. inl h) n n (omega arith)).expr x str.3
+    either (inr usual) = (inside_more text (λ t h. inr h) n n (omega arith)).expr x usual.0

@@ -1,4 +1,5 @@
 pub mod Depths
+pub mod Heights
 pub mod Keys
 pub mod KeysSaid
 pub mod SmallTrees
