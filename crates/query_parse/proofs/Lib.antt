@@ -1,4 +1,11 @@
+pub mod CallLaws
+pub mod LeafLaws
+pub mod LevelLaws
 pub mod ListLaws
 pub mod NameLaws
+pub mod OperandLaws
 pub mod OperatorLaws
+pub mod SelectLaws
+pub mod SourceLaws
+pub mod TypeLaws
 pub mod WindowLaws

@@ -1,28 +1,31 @@
 -- The laws of what many rules read.
-use Rattle.std.proofs.Common.{◌≡◌, ℕ, true, List, [], ◌∷◌, refl}
+use Rattle.std.proofs.Common.{IfSome, List, None, Option, Some, [], inl, inr, refl, true, ℕ, ◌++◌, ◌∷◌, ◌≡◌, ◌⊎◌}
 use Rattle.std.specs.Prelude.{codes}
-use Rattle.sql_token.specs.declared.token.Token.{Token}
-use Rattle.sql_token.specs.Fixed.{IsSign}
+use Rattle.sql_token.specs.Fixed.{IsFixed, IsSign}
+use Rattle.sql_token.specs.Spelled.{maybe, one}
 use Rattle.sql_token.specs.declared.keyword.Keyword.{Keyword}
-use Rattle.sql_token.specs.declared.keyword.Keyword.TheVariants as K
-use Rattle.sql_expr.specs.Tokens.{token_pair_tokens, in_parens_tokens, next_item_tokens, commas_tokens, after_tokens, by_tokens}
-use Rattle.sql_expr.specs.Rules.{IsInParens, AreCommas, IsAfter, IsBy}
-use Rattle.sql_expr.specs.declared.lists.TokenPair.{TokenPair}
+use Rattle.sql_token.specs.declared.token.Token.{Token}
+use Rattle.sql_expr.specs.Rules.{AreCommas, IsAfter, IsInParens}
+use Rattle.sql_expr.specs.Tokens.{after_tokens, commas_tokens, in_parens_tokens, next_item_tokens, token_pair_tokens}
 use Rattle.sql_expr.specs.declared.lists.After.{After}
+use Rattle.sql_expr.specs.declared.lists.By.{By}
+use Rattle.sql_expr.specs.declared.lists.Commas.{Commas}
 use Rattle.sql_expr.specs.declared.lists.InParens.{InParens}
 use Rattle.sql_expr.specs.declared.lists.NextItem.{NextItem}
-use Rattle.sql_expr.specs.declared.lists.Commas.{Commas}
-use Rattle.sql_expr.specs.declared.lists.By.{By}
-use Rattle.sql_reader.specs.declared.sort.Mark.TheVariants.{Opening, Closing, Comma}
-use Rattle.sql_reader.specs.declared.sort.Sort.{Sort}
-use Rattle.sql_reader.specs.Sorts.{sort_of}
-use Rattle.sql_reader.specs.Looks.{Set, sign, apart}
-use Rattle.sql_reader.specs.Reading.{Read, Reading, sealed}
+use Rattle.sql_expr.specs.declared.lists.TokenPair.{TokenPair}
+use Rattle.sql_reader.proofs.Choices.{choice_reads, many_reads, opt_reads}
+use Rattle.sql_reader.proofs.Forms.{begun_reads, formed_reads, lead_reads, ruled, variant_reads}
 use Rattle.sql_reader.proofs.Laws.{Fits, Reads, leaf_reads, seq_reads}
-use Rattle.sql_reader.proofs.Choices.{many_reads}
-use Rattle.sql_reader.proofs.Forms.{formed_reads, lead_reads, begun_reads}
-use Rattle.sql_reader.proofs.Leaves.{word_fits, sign_fits}
-use Rattle.query_parse.specs.Lists.{pair, after, in_parens, next_item, commas, by}
+use Rattle.sql_reader.proofs.Leaves.{sign_fits, word_fits}
+use Rattle.sql_reader.proofs.SortTests.{no_word}
+use Rattle.sql_reader.specs.Looks.{Set, apart, sign, word}
+use Rattle.sql_reader.specs.Reading.{Read, Reading, sealed}
+use Rattle.sql_reader.specs.Sorts.{sort_of}
+use Rattle.sql_reader.specs.declared.sort.Mark.TheVariants.{Closing, Comma, Opening}
+use Rattle.sql_reader.specs.declared.sort.Sort.{Sort}
+use Rattle.query_parse.specs.Lists.{after, by, commas, in_parens, maybe_not, next_item, opt_leaf, pair, read_maybe_not, read_opt_leaf}
+use Rattle.query_parse.specs.Windows.{bound}
+use Rattle.sql_token.specs.declared.keyword.Keyword.TheVariants as K
 
 -- two tokens
 pub pair_reads : {sort : Token → Sort} {P Q : Token → Type 0} {first second : Set} {bound : ℕ} → Fits sort P first → Fits sort Q second
@@ -66,13 +69,50 @@ module _ {text : List ℕ} {A : Type 0} {P C : A → Type 0} {f : A → List Tok
       formed_reads (seq_reads ra (many_reads (next_item_reads ra) refl far) far)
       (record { spelled = λ v. refl; meets = λ v h. h; covers = λ x h. ((x.first, x.more), refl, h) })
 
+module _ {text : List ℕ} {A : Type 0} {P C : Commas A → Type 0} {f : Commas A → List Token} {bound : ℕ} {a : Reading (sort_of text) (Commas A)}
+    {a' : Read (Commas A)} where
   -- WORD BY items
-  pub by_reads : (k : Keyword) → Reads (sort_of text) A P C f bound a a' → apart a.goes_on ((sign Comma ∷ []) ∷ []) ≡ true
-      → Reads (sort_of text) (By A) (IsBy text k P) (IsBy text k C) (by_tokens f) bound (by k a) (by k (sealed a a')).read
-  by_reads k ra far =
-      formed_reads (begun_reads (word_fits text k) (begun_reads (word_fits text K.By) (commas_reads ra far)))
+  pub by_reads : (k : Keyword) → Reads (sort_of text) (Commas A) P C f bound a a'
+      → Reads (sort_of text) (By A) (λ x. IsFixed text k x.word × IsFixed text K.By x.by × P x.items)
+      (λ x. IsFixed text k x.word × IsFixed text K.By x.by × C x.items) (λ x. one x.word ++ one x.by ++ f x.items) bound (by k a)
+      (by k (sealed a a')).read
+  by_reads k ra =
+      formed_reads (begun_reads (word_fits text k) (begun_reads (word_fits text K.By) ra))
       (record {
         spelled = λ v. refl;
         meets = λ v h. (h.0, h.1.0, h.1.1);
         covers = λ x h. ((x.word, (x.by, x.items)), refl, (h.0, (h.1, h.2)));
       })
+
+-- [NOT] and a token
+abbrev pub IsMaybeNot : List ℕ → (Token → Type 0) → Option Token × Token → Type 0
+IsMaybeNot text P v = IfSome v.0 (IsFixed text K.Not) × P v.1
+
+abbrev pub maybe_not_tokens : Option Token × Token → List Token
+maybe_not_tokens v = maybe one v.0 ++ one v.1
+
+maybe_not_covers : (text : List ℕ) (P : Token → Type 0) (o : Option Token) (t : Token) → IsMaybeNot text P (o, t)
+    → ((v : Token × Token) × (◌≡◌ {A = Option Token × Token} (o, t) (Some v.0, v.1)) × (IsFixed text K.Not v.0 × P v.1)) ⊎ ((v : Token) × (◌≡◌ {A = Option Token × Token} (o, t) (None, v)) × P v)
+maybe_not_covers text P (Some no_word) t h = inl ((no_word, t), refl, h)
+maybe_not_covers text P None t h = inr (t, refl, h.1)
+
+module _ (text : List ℕ) {P : Token → Type 0} {set : Set} {n : ℕ} where
+  -- a token of the set, or none
+  pub opt_leaf_reads : Fits (sort_of text) P set
+      → Reads (sort_of text) (Option Token) (λ x. IfSome x P) (λ x. IfSome x P) (maybe one) n (opt_leaf (sort_of text) set)
+      (read_opt_leaf (sort_of text) set)
+  unfolding read_opt_leaf
+  opt_leaf_reads fit = opt_reads (leaf_reads fit) refl
+
+  pub maybe_not_reads : Fits (sort_of text) P set → apart ((word K.Not ∷ set ∷ []) ∷ []) ((set ∷ []) ∷ []) ≡ true
+      → Reads (sort_of text) (Option Token × Token) (IsMaybeNot text P) (IsMaybeNot text P) maybe_not_tokens n (maybe_not (sort_of text) set)
+      (read_maybe_not (sort_of text) set)
+  unfolding read_maybe_not
+  maybe_not_reads fit far =
+      ruled
+      (choice_reads
+      (variant_reads (lead_reads (word_fits text K.Not) (leaf_reads fit)) (λ v. refl) (λ v h. h))
+      (variant_reads (leaf_reads fit) (λ t. refl) (λ t h. (tt, h)))
+      refl refl far)
+      (λ x h. h)
+      (λ x h. maybe_not_covers text P x.0 x.1 h)

@@ -1,27 +1,45 @@
--- The laws of what is read as literals and actions.
-use Rattle.std.proofs.Common.{ℕ, inl, inr, List, refl}
-use Rattle.sql_token.specs.declared.keyword.Keyword.TheVariants as K
-use Rattle.sql_expr.specs.Tokens.{literal_tokens, action_tokens}
-use Rattle.sql_expr.specs.Rules.{IsLiteral, IsAction}
-use Rattle.sql_expr.specs.declared.operators.Literal.{Literal}
-use Rattle.sql_expr.specs.declared.operators.Literal.TheVariants as Literal'
+-- The laws of what is read as literals, actions and operators between parts.
+use Rattle.std.proofs.Common.{IfSome, List, None, Option, Some, inl, inr, not, refl, ℕ}
+use Rattle.sql_token.specs.Spelled.{maybe}
+use Rattle.sql_expr.specs.Leaf.{AreFixed}
+use Rattle.sql_expr.specs.Rules.{IsAction, IsInfix, IsLiteral}
+use Rattle.sql_expr.specs.Tokens.{action_tokens, infix_tokens, literal_tokens, token_pair_tokens}
+use Rattle.sql_expr.specs.declared.lists.TokenPair.{TokenPair}
 use Rattle.sql_expr.specs.declared.operators.Action.{Action}
-use Rattle.sql_expr.specs.declared.operators.Action.TheVariants as Action'
-use Rattle.sql_reader.specs.Sorts.{sort_of}
+use Rattle.sql_expr.specs.declared.operators.Infix.{Infix}
+use Rattle.sql_expr.specs.declared.operators.Literal.{Literal}
+use Rattle.sql_reader.proofs.Choices.{choice_reads, opt_reads}
+use Rattle.sql_reader.proofs.Forms.{begun_reads, lead_reads, leaf_before_reads, ruled, variant_reads}
 use Rattle.sql_reader.proofs.Laws.{Reads, leaf_reads}
-use Rattle.sql_reader.proofs.Choices.{choice_reads}
-use Rattle.sql_reader.proofs.Forms.{variant_reads, ruled}
-use Rattle.sql_reader.proofs.Leaves.{word_fits, str_fits, blob_fits, number_fits}
-use Rattle.query_parse.specs.Operators.{literal, read_literal, action, read_action}
+use Rattle.sql_reader.proofs.Leaves.{blob_fits, number_fits, str_fits, word_fits, words_fit}
+use Rattle.sql_reader.specs.Looks.{word}
+use Rattle.sql_reader.specs.Sorts.{sort_of}
+use Rattle.query_parse.proofs.LeafLaws.{infix_sign_fits}
+use Rattle.query_parse.proofs.ListLaws.{maybe_not_reads, pair_reads}
+use Rattle.query_parse.specs.Lists.{pair}
+use Rattle.query_parse.specs.Operators.{action, comparing_words, distinct_from, literal, operator, read_action, read_distinct_from, read_literal, read_operator}
+use Rattle.sql_expr.specs.declared.operators.Action.TheVariants as Action'
+use Rattle.sql_expr.specs.declared.operators.Infix.TheVariants as Infix'
+use Rattle.sql_token.specs.declared.keyword.Keyword.TheVariants as K
+use Rattle.sql_expr.specs.declared.operators.Literal.TheVariants as Literal'
 
-module _ (text : List ℕ) (n : ℕ) where
+-- an operator that is no bare IS
+abbrev pub IsNotBare : Infix → Type 0
+IsNotBare (Infix'.Is is None None) = ⊥
+IsNotBare _ = Unit {0}
+
+abbrev pub IsOtherInfix : List ℕ → Infix → Type 0
+IsOtherInfix text x = IsInfix text x × IsNotBare x
+
+module _ (text : List ℕ) {n : ℕ} where
   -- number | string | blob | NULL | CURRENT_DATE | CURRENT_TIME | CURRENT_TIMESTAMP
-  pub literal_reads : Reads (sort_of text) Literal (IsLiteral text) (IsLiteral text) literal_tokens n (literal (sort_of text)) (read_literal (sort_of text))
+  pub literal_reads : Reads (sort_of text) Literal (IsLiteral text) (IsLiteral text) literal_tokens n
+      (literal (sort_of text)) (read_literal (sort_of text))
   unfolding read_literal
   literal_reads =
       ruled
       (choice_reads (variant_reads (leaf_reads (number_fits text)) (λ t. refl) (λ t h. h))
-      (choice_reads (variant_reads (leaf_reads (str_fits text)) (λ t. refl) (λ t h. h))
+      (choice_reads (variant_reads (leaf_before_reads (str_fits text)) (λ t. refl) (λ t h. h))
       (choice_reads (variant_reads (leaf_reads (blob_fits text)) (λ t. refl) (λ t h. h))
       (choice_reads (variant_reads (leaf_reads (word_fits text K.Null)) (λ t. refl) (λ t h. h))
       (choice_reads (variant_reads (leaf_reads (word_fits text K.CurrentDate)) (λ t. refl) (λ t h. h))
@@ -40,7 +58,8 @@ module _ (text : List ℕ) (n : ℕ) where
       ])
 
   -- ROLLBACK | ABORT | FAIL
-  pub action_reads : Reads (sort_of text) Action (IsAction text) (IsAction text) action_tokens n (action (sort_of text)) (read_action (sort_of text))
+  pub action_reads : Reads (sort_of text) Action (IsAction text) (IsAction text) action_tokens n
+      (action (sort_of text)) (read_action (sort_of text))
   unfolding read_action
   action_reads =
       ruled
@@ -53,4 +72,40 @@ module _ (text : List ℕ) (n : ℕ) where
         | Action'.Rollback t ↦ λ h. inl (t, refl, h)
         | Action'.Abort t ↦ λ h. inr (inl (t, refl, h))
         | Action'.Fail t ↦ λ h. inr (inr (t, refl, h))
+      ])
+
+  -- [DISTINCT FROM]
+  pub distinct_from_reads : Reads (sort_of text) (Option TokenPair) (λ x. IfSome x (AreFixed text K.Distinct K.From)) (λ x. IfSome x (AreFixed text K.Distinct K.From)) (maybe token_pair_tokens) n
+      (distinct_from (sort_of text)) (read_distinct_from (sort_of text))
+  unfolding read_distinct_from
+  distinct_from_reads = opt_reads (pair_reads (word_fits text K.Distinct) (word_fits text K.From)) refl
+
+  -- any operator but a bare IS
+  pub operator_reads : Reads (sort_of text) Infix (IsOtherInfix text) (IsOtherInfix text) infix_tokens n
+      (operator (sort_of text)) (read_operator (sort_of text))
+  unfolding read_operator
+  operator_reads =
+      ruled
+      (choice_reads
+      (variant_reads (lead_reads (word_fits text K.Is) (begun_reads (word_fits text K.Not) distinct_from_reads)) (λ v. refl)
+      (λ v h. ((h.0, h.1.0, h.1.1), tt)))
+      (choice_reads
+      (variant_reads (lead_reads (word_fits text K.Is) (pair_reads (word_fits text K.Distinct) (word_fits text K.From))) (λ v. refl)
+      (λ v h. ((h.0, tt, h.1), tt)))
+      (choice_reads (variant_reads (leaf_reads (word_fits text K.And)) (λ t. refl) (λ t h. (h, tt)))
+      (choice_reads (variant_reads (leaf_reads (word_fits text K.Or)) (λ t. refl) (λ t h. (h, tt)))
+      (choice_reads (variant_reads (leaf_reads (word_fits text K.Escape)) (λ t. refl) (λ t h. (h, tt)))
+      (choice_reads (variant_reads (leaf_reads (infix_sign_fits text)) (λ t. refl) (λ t h. (h, tt)))
+      (variant_reads (maybe_not_reads text (words_fit text comparing_words) refl) (λ v. refl) (λ v h. (h, tt)))
+      refl refl refl) refl refl refl) refl refl refl) refl refl refl) refl refl refl) refl refl refl)
+      (λ x h. h)
+      (elim [
+        | Infix'.Sign t ↦ λ h. inr (inr (inr (inr (inr (inl (t, refl, h.0))))))
+        | Infix'.And t ↦ λ h. inr (inr (inl (t, refl, h.0)))
+        | Infix'.Or t ↦ λ h. inr (inr (inr (inl (t, refl, h.0))))
+        | Infix'.Is is (Some not) pair ↦ λ h. inl ((is, (not, pair)), refl, (h.0.0, (h.0.1, h.0.2)))
+        | Infix'.Is is None (Some pair) ↦ λ h. inr (inl ((is, pair), refl, (h.0.0, h.0.2)))
+        | Infix'.Is is None None ↦ λ h. absurd h.1
+        | Infix'.Escape t ↦ λ h. inr (inr (inr (inr (inl (t, refl, h.0)))))
+        | Infix'.Compares not word ↦ λ h. inr (inr (inr (inr (inr (inr ((not, word), refl, h.0))))))
       ])

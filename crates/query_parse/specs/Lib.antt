@@ -1,5 +1,12 @@
+pub mod Calls
 pub mod Exprs
+pub mod Levels
 pub mod Lists
 pub mod Names
+pub mod Opened
+pub mod Operands
 pub mod Operators
+pub mod Selects
+pub mod Sources
+pub mod Types
 pub mod Windows

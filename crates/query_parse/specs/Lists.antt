@@ -1,17 +1,18 @@
 -- What many rules read: words in a row, parentheses, lists with commas.
+use Rattle.std.specs.Prelude.{None, Option, Some}
+use Rattle.sql_token.specs.declared.keyword.Keyword.{Keyword}
 use Rattle.sql_token.specs.declared.token.Token.{Token}
-use Rattle.sql_expr.specs.declared.lists.TokenPair.{TokenPair}
 use Rattle.sql_expr.specs.declared.lists.After.{After}
+use Rattle.sql_expr.specs.declared.lists.By.{By}
+use Rattle.sql_expr.specs.declared.lists.Commas.{Commas}
 use Rattle.sql_expr.specs.declared.lists.InParens.{InParens}
 use Rattle.sql_expr.specs.declared.lists.NextItem.{NextItem}
-use Rattle.sql_expr.specs.declared.lists.Commas.{Commas}
-use Rattle.sql_expr.specs.declared.lists.By.{By}
-use Rattle.sql_token.specs.declared.keyword.Keyword.{Keyword}
-use Rattle.sql_token.specs.declared.keyword.Keyword.TheVariants as K
-use Rattle.sql_reader.specs.declared.sort.Mark.TheVariants.{Opening, Closing, Comma}
+use Rattle.sql_expr.specs.declared.lists.TokenPair.{TokenPair}
+use Rattle.sql_reader.specs.Looks.{Set, sign, word}
+use Rattle.sql_reader.specs.Reading.{Read, Reading, begun, choice, formed, lead, leaf, many, opt, sealed, seq}
+use Rattle.sql_reader.specs.declared.sort.Mark.TheVariants.{Closing, Comma, Opening}
 use Rattle.sql_reader.specs.declared.sort.Sort.{Sort}
-use Rattle.sql_reader.specs.Looks.{Set, word, sign}
-use Rattle.sql_reader.specs.Reading.{Reading, leaf, seq, lead, begun, many, formed}
+use Rattle.sql_token.specs.declared.keyword.Keyword.TheVariants as K
 
 -- two tokens
 abbrev pub pair : {sort : Token → Sort} → Set → Set → Reading sort TokenPair
@@ -35,6 +36,26 @@ abbrev pub commas : {sort : Token → Sort} {A : Type 0} → Reading sort A → 
 commas item = formed (λ v. record { first = v.0; more = v.1 }) (seq item (many (next_item item)))
 
 -- WORD BY items
-abbrev pub by : {sort : Token → Sort} {A : Type 0} → Keyword → Reading sort A → Reading sort (By A)
-by keyword item =
-    formed (λ v. record { word = v.0; by = v.1.0; items = v.1.1 }) (begun (word keyword) (begun (word K.By) (commas item)))
+abbrev pub by : {sort : Token → Sort} {A : Type 0} → Keyword → Reading sort (Commas A) → Reading sort (By A)
+by keyword items =
+    formed (λ v. record { word = v.0; by = v.1.0; items = v.1.1 }) (begun (word keyword) (begun (word K.By) items))
+
+-- a token of the set, or none
+abbrev opt_leaf_form : (sort : Token → Sort) → Set → Reading sort (Option Token)
+opt_leaf_form sort set = opt (leaf set)
+
+unfoldable pub read_opt_leaf : (Token → Sort) → Set → Read (Option Token)
+read_opt_leaf sort set = (opt_leaf_form sort set).read
+
+abbrev pub opt_leaf : (sort : Token → Sort) → Set → Reading sort (Option Token)
+opt_leaf sort set = sealed (opt_leaf_form sort set) (read_opt_leaf sort set)
+
+-- [NOT] and a token of the set
+abbrev maybe_not_form : (sort : Token → Sort) → Set → Reading sort (Option Token × Token)
+maybe_not_form sort set = choice (formed (λ v. (Some v.0, v.1)) (lead (word K.Not) (leaf set))) (formed (λ t. (None, t)) (leaf set))
+
+unfoldable pub read_maybe_not : (Token → Sort) → Set → Read (Option Token × Token)
+read_maybe_not sort set = (maybe_not_form sort set).read
+
+abbrev pub maybe_not : (sort : Token → Sort) → Set → Reading sort (Option Token × Token)
+maybe_not sort set = sealed (maybe_not_form sort set) (read_maybe_not sort set)

@@ -2,10 +2,13 @@
 
 ghost use Rattle.std.specs.Prelude.{◌≡◌};
 ghost use Rattle.sql_reader.specs.Cursor.{Gives, Finds};
+ghost use Rattle.sql_reader.specs.Looks.{name};
+ghost use Rattle.sql_reader.specs.Reading.{read_leaf_before};
+ghost use Rattle.query_parse.specs.Exprs.{dot_or_opening};
 ghost use Rattle.query_parse.specs.Names.{read_qualifier, read_object, read_next_name, read_more_names, read_name_list, read_names};
 
 use sql_expr::{Commas, InParens, NextItem, Object, TokenPair};
-use sql_reader::{Cursor, Mark, ReadError};
+use sql_reader::{Cursor, Mark, ReadError, Sort};
 use sql_token::Token;
 use sqlite_items::Items;
 use std::alloc::Global;
@@ -16,8 +19,22 @@ pub fn object(cursor: &mut Cursor<'_>) -> Result<Object, ReadError>
     ensures { Finds read_object result cursor.old cursor.new }
 {
     let qualifier = qualifier(cursor)?;
-    let name = cursor.name_before(Mark::Dot)?;
+    let name = whole_name(cursor)?;
     Ok(Object { qualifier, name })
+}
+
+/// A name that is no front of a longer use or of a call.
+fn whole_name(cursor: &mut Cursor<'_>) -> Result<Token, ReadError>
+    ensures { Finds (λ sort. read_leaf_before sort name dot_or_opening) result cursor.old cursor.new }
+{
+    let fits = cursor.first().is_name() && !is_dot_or_opening(cursor.second());
+    cursor.take_if(fits)
+}
+
+fn is_dot_or_opening(sort: Sort) -> bool
+    ensures { result ≡ dot_or_opening sort }
+{
+    sort.is_sign(Mark::Dot) || sort.is_sign(Mark::Opening)
 }
 
 /// `[name "."]`
