@@ -1,0 +1,60 @@
+//! What is answered to a case.
+
+use crate::field::Escaped;
+use sql_token::{Token, TokenKind};
+use std::fmt;
+
+/// What a call gives, and how the line of the answer says it.
+#[derive(Drop)]
+pub enum Answer {
+    /// The tokens of the text.
+    Tokens(Vec<Token>),
+    /// The text has no token at this place.
+    BadToken(usize),
+    /// The name that a token spells.
+    Name(Vec<u8>),
+    /// No token that spells a name begins there.
+    NoName,
+    /// The place of the first token that is too deep, if there is one.
+    TooDeep(Option<usize>),
+    /// The line is no case.
+    NoSuchCase,
+}
+
+impl fmt::Display for Answer {
+    fn fmt<W: fmt::Write>(&self, f: &mut fmt::Formatter<W>) -> fmt::Result {
+        match self {
+            Answer::Tokens(tokens) => write_tokens(f, tokens.as_slice()),
+            Answer::BadToken(at) => write!(f, "bad-token {at}"),
+            Answer::Name(name) => write!(f, "{}", Escaped(name.as_slice())),
+            Answer::NoName => f.write_str("no-name"),
+            Answer::TooDeep(Some(at)) => write!(f, "{at}"),
+            Answer::TooDeep(None) => f.write_str("none"),
+            Answer::NoSuchCase => f.write_str("no such case"),
+        }
+    }
+}
+
+/// The tokens, a space between.
+fn write_tokens<W: fmt::Write>(f: &mut fmt::Formatter<W>, tokens: &[Token]) -> fmt::Result {
+    let mut between = "";
+    for token in tokens {
+        let kind = name_of_kind(token.kind);
+        write!(f, "{between}{kind}:{}-{}", token.start, token.end)?;
+        between = " ";
+    }
+    Ok(())
+}
+
+fn name_of_kind(kind: TokenKind) -> &'static str {
+    match kind {
+        TokenKind::Word => "Word",
+        TokenKind::Quoted => "Quoted",
+        TokenKind::Str => "Str",
+        TokenKind::Blob => "Blob",
+        TokenKind::Int => "Int",
+        TokenKind::Hex => "Hex",
+        TokenKind::Float => "Float",
+        TokenKind::Op => "Op",
+    }
+}

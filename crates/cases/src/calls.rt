@@ -1,0 +1,62 @@
+//! The calls that a case may name.
+
+ghost use Rattle.std.specs.Prelude.{IsTrue};
+ghost use Rattle.sql_token.specs.Names.{IsNameKind};
+ghost use Rattle.sql_token.specs.Token.{AreTokens};
+
+use crate::answer::Answer;
+use crate::field::{number, unescaped};
+use sql_token::{Token, TokenError, TokenKind, name_of, tokens};
+use sql_tree::first_too_deep;
+use std::alloc::{AllocError, Global};
+
+/// The answer to a line. A line of another form is no case.
+pub fn answer_to(alloc: Global, line: &[u8]) -> Result<Answer, AllocError> {
+    let mut fields = line.split(|byte| *byte == b'\t');
+    let (Some(call), Some(field)) = (fields.next(), fields.next()) else {
+        return Ok(Answer::NoSuchCase);
+    };
+    let place = fields.next();
+    if fields.next().is_some() {
+        return Ok(Answer::NoSuchCase);
+    }
+    let Some(text) = unescaped(alloc, field)? else {
+        return Ok(Answer::NoSuchCase);
+    };
+    let list = match tokens(alloc, text.as_slice()) {
+        Ok(list) => list,
+        Err(TokenError::Bad(at)) => return Ok(Answer::BadToken(at)),
+        Err(TokenError::Memory(fault)) => return Err(fault),
+    };
+    match (call, place) {
+        (b"tokens", None) => Ok(Answer::Tokens(list)),
+        (b"nesting", None) => Ok(Answer::TooDeep(first_too_deep(
+            alloc,
+            text.as_slice(),
+            list.as_slice(),
+        )?)),
+        (b"name", Some(place)) => name_at(alloc, text.as_slice(), list.as_slice(), place),
+        _ => Ok(Answer::NoSuchCase),
+    }
+}
+
+/// The name that the token which begins at the place spells.
+fn name_at(alloc: Global, text: &[u8], list: &[Token], place: &[u8]) -> Result<Answer, AllocError>
+    requires { AreTokens text.now list.now }
+{
+    let Some(at) = number(place) else {
+        return Ok(Answer::NoSuchCase);
+    };
+    for token in list {
+        if token.start == at && spells_name(token.kind) {
+            return Ok(Answer::Name(name_of(alloc, text, token)?));
+        }
+    }
+    Ok(Answer::NoName)
+}
+
+fn spells_name(kind: TokenKind) -> bool
+    ensures { IsTrue result → IsNameKind kind }
+{
+    matches!(kind, TokenKind::Word | TokenKind::Quoted | TokenKind::Str)
+}
