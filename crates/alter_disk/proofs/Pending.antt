@@ -1,8 +1,7 @@
 -- Laws on what a crash may leave of a disk in memory.
-use Rattle.std.proofs.Common.{◌≡◌, ◌⊎◌, inl, inr, ℕ, suc, Bool, true, false, ◌+◌, ◌-◌, ◌<◌, ◌≤◌, min, max, List, [], ◌∷◌, ◌++◌, length, take, drop, map, reverse, replicate, Option, Some, None, if◌then◌else◌, refl, subst, sym, ap, ◌∙◌, arith, append_assoc, length-append, length-drop}
+use Rattle.std.proofs.Common.{◌≡◌, ◌⊎◌, inl, inr, ℕ, suc, Bool, true, false, ◌+◌, ◌-◌, ◌<◌, ◌≤◌, min, List, [], ◌∷◌, ◌++◌, length, take, drop, map, reverse, replicate, if◌then◌else◌, refl, subst, sym, ap, ◌∙◌, arith, append_assoc, length-append, length-drop}
 use Rattle.std.proofs.lemmas.Bool.{cases_lt}
-use Rattle.std.proofs.lemmas.Grind.{common_steps}
-use Rattle.std.proofs.lemmas.List.{take_min, take_at, take-append-le, take_all, length-take-le, length-replicate, append-nil, map-append, reverse-append}
+use Rattle.std.proofs.lemmas.List.{take_min, take_at, take-append-le, take_all, length-take-le, length-replicate, map-append, reverse-append}
 use Rattle.common_laws.proofs.Lists.{drop_mid}
 use Rattle.alter_disk.specs.declared.which.Which.{Which}
 use Rattle.alter_disk.specs.declared.which.Which.TheVariants.{Db, Journal}
@@ -10,8 +9,8 @@ use Rattle.alter_disk.specs.declared.call.Call as calls
 use Rattle.alter_disk.specs.Files.{Files, file, with_file}
 use Rattle.alter_disk.specs.Changes.{Torn, CutShort, ChangesOne, overwritten}
 use Rattle.alter_disk.specs.Crash.{After, NoMore, Elapses}
-use Rattle.alter_disk.specs.Memory.{Memory, HoldsCalls, after_write, after_cut, after_sync, after_call, after_open, refuses, refuses_write}
-use Rattle.alter_disk.specs.Pending.{Change, Call, Wrote, Cut, Synced, LeftOf, MayLeave, LeftSince, call_of, newest_first}
+use Rattle.alter_disk.specs.Memory.{Memory, HoldsCalls, after_write, after_cut, after_sync}
+use Rattle.alter_disk.specs.Pending.{Call, Wrote, Cut, Synced, LeftOf, MayLeave, LeftSince, call_of, newest_first}
 
 -- a call that changed nothing is one that was cut short at once
 pub torn_same : (at n : ℕ) (b : List ℕ) → Torn at n b b
@@ -96,34 +95,40 @@ either : (P : Memory → Type 0) (b : Bool) (x y : Memory) → P x → P y → P
 either P true x y px py = px
 either P false x y px py = py
 
+-- a crash after a call that kept nothing leaves what a step that did nothing leaves
+pub stays_crash : (Step : List ℕ → List ℕ → Type 0) → ((b : List ℕ) → Step b b) → (which : Which) (first : Files) (calls : List Call) (first-now : Files) (calls-now : List Call)
+    → first-now ≡ first → calls-now ≡ calls → (c : Files) → MayLeave first-now calls-now c → After (ChangesOne which Step) (MayLeave first calls) c
+stays_crash Step same which first calls first-now calls-now first-is calls-is c left =
+    (c, subst (λ f. MayLeave f calls c) first-is (subst (λ made. MayLeave first-now made c) calls-is left), record { one = same (file which c); other = refl })
+
 module _ (old new : Memory) where
-  pub write_crash : (which : Which) (at : ℕ) (piece : List ℕ) → new ≡ after_write which at piece old
+  pub write_crash : (failed : Bool) (which : Which) (at : ℕ) (piece : List ℕ) → new ≡ after_write failed which at piece old
       → (c : Files) → MayLeave new.first new.steps c → After (ChangesOne which (Torn at (length piece))) (MayLeave old.first old.steps) c
-  write_crash which at piece is =
+  write_crash failed which at piece is =
       let P : Memory → Type 0 = λ m. (c : Files) → MayLeave m.first m.steps c → After (ChangesOne which (Torn at (length piece))) (MayLeave old.first old.steps) c in
       subst P (sym is)
-      (either P (refuses_write at (length piece) old) _ _ (λ c left. (c, left, record { one = torn_same at (length piece) (file which c); other = refl }))
+      (either P failed _ _ (λ c left. (c, left, record { one = torn_same at (length piece) (file which c); other = refl }))
       (wrote_left which at (length piece) old.first old.steps))
 
-  pub cut_crash : (which : Which) (len : ℕ) → new ≡ after_cut which len old
+  pub cut_crash : (failed : Bool) (which : Which) (len : ℕ) → new ≡ after_cut failed which len old
       → (c : Files) → MayLeave new.first new.steps c → After (ChangesOne which (CutShort len)) (MayLeave old.first old.steps) c
-  cut_crash which len is =
+  cut_crash failed which len is =
       let P : Memory → Type 0 = λ m. (c : Files) → MayLeave m.first m.steps c → After (ChangesOne which (CutShort len)) (MayLeave old.first old.steps) c in
       subst P (sym is)
-      (either P (refuses old) _ _ (λ c left. (c, left, record { one = cut_same len (file which c); other = refl })) (cut_left which len old.first old.steps))
+      (either P failed _ _ (λ c left. (c, left, record { one = cut_same len (file which c); other = refl })) (cut_left which len old.first old.steps))
 
   abbrev GoesOn : Memory → Type 0
   GoesOn m = Elapses (length old.steps) (length m.steps) (LeftSince old.first old.steps) (LeftSince m.first m.steps) (MayLeave m.first m.steps)
 
-  pub write_time : (which : Which) (at : ℕ) (piece : List ℕ) → new ≡ after_write which at piece old → GoesOn new
-  write_time which at piece is =
-      subst GoesOn (sym is) (either GoesOn (refuses_write at (length piece) old) _ _ (stands old.first old.steps) (goes_on old.first _ old.steps))
+  pub write_time : (failed : Bool) (which : Which) (at : ℕ) (piece : List ℕ) → new ≡ after_write failed which at piece old → GoesOn new
+  write_time failed which at piece is =
+      subst GoesOn (sym is) (either GoesOn failed _ _ (stands old.first old.steps) (goes_on old.first _ old.steps))
 
-  pub cut_time : (which : Which) (len : ℕ) → new ≡ after_cut which len old → GoesOn new
-  cut_time which len is = subst GoesOn (sym is) (either GoesOn (refuses old) _ _ (stands old.first old.steps) (goes_on old.first _ old.steps))
+  pub cut_time : (failed : Bool) (which : Which) (len : ℕ) → new ≡ after_cut failed which len old → GoesOn new
+  cut_time failed which len is = subst GoesOn (sym is) (either GoesOn failed _ _ (stands old.first old.steps) (goes_on old.first _ old.steps))
 
-  pub sync_time : (which : Which) → new ≡ after_sync which old → GoesOn new
-  sync_time which is = subst GoesOn (sym is) (either GoesOn (refuses old) _ _ (stands old.first old.steps) (goes_on old.first _ old.steps))
+  pub sync_time : (failed : Bool) (which : Which) → new ≡ after_sync failed which old → GoesOn new
+  sync_time failed which is = subst GoesOn (sym is) (either GoesOn failed _ _ (stands old.first old.steps) (goes_on old.first _ old.steps))
 
 -- what a read gives may be left after a call, as it might have been before
 pub left_wrote : (which : Which) (at : ℕ) (piece : List ℕ) (first : Files) (calls : List Call) (f : Files) → MayLeave first calls f
@@ -152,13 +157,15 @@ pub one_newer : (made : List calls.Call) (call : calls.Call) → newest_first (m
 one_newer made call = ap reverse (map-append call_of made (call ∷ [])) ∙ reverse-append (map call_of made) (call_of call ∷ [])
 
 -- a record of calls with one more
-pub holds_more : (calls made : ℕ) (steps newer : List Call) (call : Call) (size spare capacity more spare_left room : ℕ) → HoldsCalls calls made steps size spare capacity
-    → length steps < made → newer ≡ call ∷ steps → more ≡ size + 1 → spare ≤ spare_left + 1 → capacity ≤ room → HoldsCalls calls made newer more spare_left room
-holds_more calls made steps newer call size spare capacity more spare_left room holds few newest one less wide =
+pub holds_more : (grows : Bool) (calls made : ℕ) (steps newer : List Call) (call : Call) (size spare capacity more spare_left room : ℕ)
+    → HoldsCalls grows calls made steps size spare capacity
+    → (grows ≡ false → length steps < made) → newer ≡ call ∷ steps → more ≡ size + 1 → (grows ≡ false → spare ≤ spare_left + 1) → capacity ≤ room
+    → HoldsCalls grows calls made newer more spare_left room
+holds_more grows calls made steps newer call size spare capacity more spare_left room holds few newest one less wide =
     let long : length newer ≡ suc (length steps) = ap length newest in
     record {
-      behind = omega (arith, long);
       same = omega (arith, long, holds.same);
-      spare_left = omega (arith, long, holds.spare_left);
-      reserved = omega (arith, holds.reserved);
+      behind = λ fixed. omega (arith, long, few fixed);
+      spare_left = λ fixed. omega (arith, long, holds.spare_left fixed, less fixed);
+      reserved = λ fixed. omega (arith, holds.reserved fixed);
     }

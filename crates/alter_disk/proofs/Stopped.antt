@@ -1,14 +1,13 @@
 -- What `stopped` gives may be left.
-use Rattle.std.proofs.Common.{◌≡◌, ℕ, Bool, true, false, ◌+◌, ◌-◌, ◌==◌, ◌≤◌, min, List, [], ◌∷◌, ◌++◌, length, take, drop, replicate, Vec, Result, Ok, Err, IfOk, Option, Some, None, if◌then◌else◌, inl, inr, refl, sym, subst, ap, ◌∙◌, arith, append_assoc, length-append, length-drop}
-use Rattle.std.proofs.lemmas.Bool.{cases_lt}
-use Rattle.std.proofs.lemmas.List.{take_min, take_at, take-append-le, take_all, length-take, length-replicate}
+use Rattle.std.proofs.Common.{◌≡◌, ℕ, Bool, true, false, ◌+◌, ◌-◌, ◌==◌, min, List, [], ◌∷◌, ◌++◌, length, take, drop, replicate, Vec, Result, Ok, Err, IfOk, Option, Some, None, if◌then◌else◌, refl, sym, subst, ap, ◌∙◌, arith, append_assoc, length-append, length-drop}
+use Rattle.std.proofs.lemmas.List.{take_at, length-take, length-replicate}
 use Rattle.common_laws.proofs.Lists.{drop_mid}
 use Rattle.std.specs.declared.alloc.Global.{Global}
 use Rattle.std.specs.declared.alloc.AllocError.{AllocError}
 use Rattle.alter_disk.specs.declared.which.Which.{Which}
 use Rattle.alter_disk.specs.declared.which.Which.TheVariants.{Db, Journal}
 use Rattle.alter_disk.specs.Files.{Files, file}
-use Rattle.alter_disk.specs.Changes.{Torn, CutShort}
+use Rattle.alter_disk.specs.Changes.{Torn}
 use Rattle.alter_disk.specs.Memory.{Memory, stopped_file}
 use Rattle.alter_disk.specs.Pending.{Change, Call, Wrote, Cut, Synced, LeftAfter, LeftOf, MayLeave, change_in, synced_after, synced_file, smeared, filled_after, filled_file}
 use Rattle.alter_disk.proofs.Pending.{torn_same, cut_same}

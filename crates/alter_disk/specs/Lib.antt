@@ -2,6 +2,7 @@ pub mod Calls
 pub mod Changes
 pub mod Collected
 pub mod Crash
+pub mod Failing
 pub mod Faults
 pub mod Files
 pub mod Fused

@@ -7,7 +7,7 @@ use Rattle.alter_disk.specs.declared.which.Which.TheVariants.{Db, Journal}
 use Rattle.alter_disk.specs.declared.call.Change as declared
 use Rattle.alter_disk.specs.declared.call.Change.TheVariants as kept
 use Rattle.alter_disk.specs.declared.call.Call as calls
-use Rattle.alter_disk.specs.Files.{Files, file}
+use Rattle.alter_disk.specs.Files.{Files}
 use Rattle.alter_disk.specs.Changes.{Torn, CutShort}
 
 -- what a call did to a file: it wrote from a place to an end, cut it to a length, or made these bytes durable

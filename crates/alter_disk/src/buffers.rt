@@ -1,5 +1,5 @@
 //! The two files of a disk in memory.
-ghost use Rattle.std.specs.Prelude.{◌≡◌, ◌+◌, ◌-◌, ◌≤◌, ◌++◌, [], length, take, drop, replicate, vec_len, vec_capacity, IfOk};
+ghost use Rattle.std.specs.Prelude.{◌≡◌, ◌+◌, ◌-◌, ◌^◌, ◌<◌, ◌≤◌, ◌++◌, true, false, [], length, take, drop, replicate, vec_len, vec_capacity, IsOk, IfOk, OnOk, OnErr};
 ghost use Rattle.alter_disk.specs.Files.{file, with_file};
 ghost use Rattle.alter_disk.specs.Changes.{overwritten};
 ghost use Rattle.alter_disk.specs.Memory.{Held, IsReserved};
@@ -8,20 +8,21 @@ use crate::Which;
 use std::alloc::{AllocError, Global};
 use std::marker::Model;
 
-/// Two files in buffers of a fixed size.
+/// Two files in buffers of a fixed size, or in buffers that grow.
 #[derive(Drop)]
 pub(crate) struct Buffers {
     db: Vec<u8>,
     journal: Vec<u8>,
+    grows: bool,
     room: usize,
 }
 
 impl Model for Buffers {
     ghost Value = { Held };
 
-    ghost view = { λ b. record { files = record { db = b.db.items; journal = b.journal.items }; room = b.room } };
+    ghost view = { λ b. record { files = record { db = b.db.items; journal = b.journal.items }; grows = b.grows; room = b.room } };
 
-    ghost invariant = { λ b. IsReserved b.room (vec_len b.db) (vec_capacity b.db) × IsReserved b.room (vec_len b.journal) (vec_capacity b.journal) };
+    ghost invariant = { λ b. IsReserved b.grows b.room (vec_len b.db) (vec_capacity b.db) × IsReserved b.grows b.room (vec_len b.journal) (vec_capacity b.journal) };
 }
 
 impl Buffers {
@@ -34,13 +35,32 @@ impl Buffers {
     ) -> Result<Buffers, AllocError>
         requires db { length db.now ≤ room }
         requires journal { length journal.now ≤ room }
-        ensures { IfOk result (λ b. b ≡ record { files = record { db = db.now; journal = journal.now }; room = room }) }
+        ensures { IfOk result (λ b. b ≡ record { files = record { db = db.now; journal = journal.now }; grows = false; room = room }) }
     {
         Ok(Buffers {
             db: reserved(alloc, db, room)?,
             journal: reserved(alloc, journal, room)?,
+            grows: false,
             room,
         })
+    }
+
+    /// Buffers that hold these, and grow.
+    pub(crate) fn growing(alloc: Global, db: &[u8], journal: &[u8]) -> Result<Buffers, AllocError>
+        ensures { IfOk result (λ b. b ≡ record { files = record { db = db.now; journal = journal.now }; grows = true; room = 0 }) }
+    {
+        Ok(Buffers {
+            db: Vec::from_slice(alloc, db)?,
+            journal: Vec::from_slice(alloc, journal)?,
+            grows: true,
+            room: 0,
+        })
+    }
+
+    pub(crate) fn grow(&self) -> bool
+        ensures { result ≡ self.now.grows }
+    {
+        self.grows
     }
 
     /// How many bytes each can hold.
@@ -52,7 +72,7 @@ impl Buffers {
 
     pub(crate) fn bytes(&self, which: Which) -> &[u8]
         ensures bytes { result.now ≡ file which self.now.files }
-        ensures within { length result.now ≤ self.now.room }
+        ensures within { self.now.grows ≡ false → length result.now ≤ self.now.room }
     {
         match which {
             Which::Db => self.db.as_slice(),
@@ -60,13 +80,21 @@ impl Buffers {
         }
     }
 
-    pub(crate) fn overlay(&mut self, which: Which, at: usize, piece: &[u8])
-        requires { at + length piece.now ≤ self.old.room }
-        ensures { self.new ≡ record self.old { files = with_file which (overwritten (file which self.old.files) at piece.now) self.old.files } }
+    pub(crate) fn overlay(
+        &mut self,
+        which: Which,
+        at: usize,
+        piece: &[u8],
+    ) -> Result<(), AllocError>
+        requires end { at + length piece.now < 2 ^ 64 }
+        requires room { self.old.grows ≡ false → at + length piece.now ≤ self.old.room }
+        ensures succeeds { self.old.grows ≡ false → IsOk result }
+        ensures written { OnOk result (self.new ≡ record self.old { files = with_file which (overwritten (file which self.old.files) at piece.now) self.old.files }) }
+        ensures kept { OnErr result (self.new ≡ self.old) }
     {
         match which {
-            Which::Db => overlay(&mut self.db, at, piece),
-            Which::Journal => overlay(&mut self.journal, at, piece),
+            Which::Db => overlay_growing(&mut self.db, at, piece),
+            Which::Journal => overlay_growing(&mut self.journal, at, piece),
         }
     }
 
@@ -117,4 +145,17 @@ fn overlay(buffer: &mut Vec<u8>, at: usize, piece: &[u8])
 {
     fill(buffer, at + piece.len());
     write_at(buffer, at, piece);
+}
+
+/// Writes a piece, which needs no memory within what the buffer has reserved.
+fn overlay_growing(buffer: &mut Vec<u8>, at: usize, piece: &[u8]) -> Result<(), AllocError>
+    requires { at + length piece.now < 2 ^ 64 }
+    ensures succeeds { at + length piece.now ≤ vec_capacity buffer.old → IsOk result }
+    ensures written { OnOk result (buffer.new.items ≡ overwritten buffer.old.items at piece.now) }
+    ensures kept { OnErr result (buffer.new.items ≡ buffer.old.items) }
+    ensures room { vec_capacity buffer.old ≤ vec_capacity buffer.new }
+{
+    buffer.reserve((at + piece.len()).saturating_sub(buffer.len()))?;
+    overlay(buffer, at, piece);
+    Ok(())
 }

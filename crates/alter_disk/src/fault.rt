@@ -3,7 +3,6 @@ ghost use Rattle.std.specs.Prelude.{◌≡◌, Ok, is_err, if◌then◌else◌, 
 ghost use Rattle.alter_disk.specs.Calls.{raised};
 
 use std::alloc::AllocError;
-use std::io;
 
 /// A call of a disk, a source or a sink failed. The count of such faults of the object rose in that call.
 #[derive(Clone, Copy, Debug)]
@@ -48,8 +47,8 @@ pub(crate) fn raise(faults: &mut u64) -> Failed
     Failed
 }
 
-/// Counts a call of the operating system where it failed.
-pub(crate) fn counted<T>(outcome: io::Result<T>, faults: &mut u64) -> Result<T, Failed>
+/// Counts a call where it failed.
+pub(crate) fn counted<T, E: Drop>(outcome: Result<T, E>, faults: &mut u64) -> Result<T, Failed>
     ensures failed { is_err result ≡ is_err outcome }
     ensures value { IfOk result (λ x. outcome ≡ Ok x) }
     ensures count { faults.new ≡ (if is_err result then raised faults.old else faults.old) }

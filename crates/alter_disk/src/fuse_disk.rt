@@ -1,6 +1,11 @@
 //! A disk that stops after some calls.
-ghost use Rattle.std.specs.Prelude.{◌≡◌, ◌+◌, ◌==◌, ◌&&◌, not, if◌then◌else◌};
-ghost use Rattle.alter_disk.specs.Fused.{Fused, unspent};
+ghost use Rattle.std.specs.Prelude.{◌≡◌, ◌⊎◌, ◌+◌, ◌^◌, ◌<◌, ◌≤◌, true, false, length, is_ok, IfSome, IsSomeAnd, IfOk, OnOk, OnErr};
+ghost use Rattle.alter_disk.specs.Files.{Files, file};
+ghost use Rattle.alter_disk.specs.Changes.{IfTold, ReadsAt, Written, Torn, TornIn, CutTo, CutShort, CutIn, ChangesOne};
+ghost use Rattle.alter_disk.specs.Crash.{After, NoMore, Elapses};
+ghost use Rattle.alter_disk.specs.Faults.{HasCause, HasOpenCause};
+ghost use Rattle.alter_disk.specs.Rest.{KeepsRest};
+ghost use Rattle.alter_disk.specs.Fused.{Fused, unspent, is_called, is_open, Burns, Opens, ReadsOn, WritesOn};
 
 use crate::fault::raise;
 use crate::{Disk, Failed, OpenFault, Which};
@@ -55,9 +60,9 @@ impl<D: Disk> FuseDisk<D> {
 impl<D: Disk> Disk for FuseDisk<D> {
     ghost label = { λ f. D.label f.inner };
 
-    ghost called = { λ f. if f.left == 0 then f.called else D.called f.inner };
+    ghost called = { λ f. is_called D.called f };
 
-    ghost opened = { λ f. not f.refused && D.opened f.inner };
+    ghost opened = { λ f. is_open D.opened f };
 
     ghost files = { λ f. D.files f.inner };
 
@@ -77,7 +82,19 @@ impl<D: Disk> Disk for FuseDisk<D> {
 
     ghost tells = { λ f. D.tells f.inner };
 
-    fn open(&mut self, name: &str) -> Result<(), OpenFault> {
+    fn open(&mut self, name: &str) -> Result<(), OpenFault>
+        requires first { is_called D.called self.old ≡ false }
+        requires name { IfSome (D.label self.old.inner) (λ known. name.now ≡ known) }
+        ensures burns { Burns (Opens D.Disk) self.old self.new result }
+        ensures called { is_called D.called self.new ≡ true }
+        ensures opened { is_open D.opened self.new ≡ is_ok result }
+        ensures files { D.files self.new.inner ≡ D.files self.old.inner }
+        ensures label { D.label self.new.inner ≡ D.label self.old.inner }
+        ensures cause { HasOpenCause (D.read_faults self.old.inner + self.old.reads_refused) (D.read_faults self.new.inner + self.new.reads_refused) result }
+        ensures other { D.write_faults self.new.inner + self.new.writes_refused ≡ D.write_faults self.old.inner + self.old.writes_refused }
+        ensures crash { NoMore (D.may_leave self.old.inner) (D.may_leave self.new.inner) }
+        ensures time { Elapses (D.moment self.old.inner) (D.moment self.new.inner) (D.left_since self.old.inner) (D.left_since self.new.inner) (D.may_leave self.new.inner) }
+    {
         self.was_called = true;
         self.was_refused = self.left == 0;
         if self.left == 0 {
@@ -87,7 +104,16 @@ impl<D: Disk> Disk for FuseDisk<D> {
         self.inner.open(name)
     }
 
-    fn len(&mut self, which: Which) -> Result<u64, Failed> {
+    fn len(&mut self, which: Which) -> Result<u64, Failed>
+        requires { is_called D.called self.old ≡ true }
+        ensures burns { Burns (ReadsOn D.Disk) self.old self.new result }
+        ensures len { IfOk result (λ n. IfTold (D.files self.old.inner) (λ f. n ≡ length (file which f))) }
+        ensures files { D.files self.new.inner ≡ D.files self.old.inner }
+        ensures rest { KeepsRest (λ f. D.label f.inner) (λ f. is_called D.called f) (λ f. is_open D.opened f) (λ f. D.write_faults f.inner + f.writes_refused) self.old self.new }
+        ensures cause { HasCause (D.read_faults self.old.inner + self.old.reads_refused) (D.read_faults self.new.inner + self.new.reads_refused) result }
+        ensures crash { NoMore (D.may_leave self.old.inner) (D.may_leave self.new.inner) }
+        ensures time { Elapses (D.moment self.old.inner) (D.moment self.new.inner) (D.left_since self.old.inner) (D.left_since self.new.inner) (D.may_leave self.new.inner) }
+    {
         if self.left == 0 {
             return Err(raise(&mut self.reads_refused));
         }
@@ -96,7 +122,18 @@ impl<D: Disk> Disk for FuseDisk<D> {
         self.inner.len(which)
     }
 
-    fn read(&mut self, which: Which, at: u64, buf: &mut [u8]) -> Result<usize, Failed> {
+    fn read(&mut self, which: Which, at: u64, buf: &mut [u8]) -> Result<usize, Failed>
+        requires called { is_called D.called self.old ≡ true }
+        requires place { (at ≤ 2 ^ 30) ⊎ IsSomeAnd (D.files self.old.inner) (λ f. at ≤ length (file which f)) }
+        ensures burns { Burns (ReadsOn D.Disk) self.old self.new result }
+        ensures count { IfOk result (λ n. n ≤ length buf.old) }
+        ensures read { IfOk result (λ n. IfTold (D.files self.old.inner) (λ f. ReadsAt (file which f) at n buf.old buf.new)) }
+        ensures files { D.files self.new.inner ≡ D.files self.old.inner }
+        ensures rest { KeepsRest (λ f. D.label f.inner) (λ f. is_called D.called f) (λ f. is_open D.opened f) (λ f. D.write_faults f.inner + f.writes_refused) self.old self.new }
+        ensures cause { HasCause (D.read_faults self.old.inner + self.old.reads_refused) (D.read_faults self.new.inner + self.new.reads_refused) result }
+        ensures crash { NoMore (D.may_leave self.old.inner) (D.may_leave self.new.inner) }
+        ensures time { Elapses (D.moment self.old.inner) (D.moment self.new.inner) (D.left_since self.old.inner) (D.left_since self.new.inner) (D.may_leave self.new.inner) }
+    {
         if self.left == 0 {
             return Err(raise(&mut self.reads_refused));
         }
@@ -105,7 +142,17 @@ impl<D: Disk> Disk for FuseDisk<D> {
         self.inner.read(which, at, buf)
     }
 
-    fn write(&mut self, which: Which, at: u64, bytes: &[u8]) -> Result<(), Failed> {
+    fn write(&mut self, which: Which, at: u64, bytes: &[u8]) -> Result<(), Failed>
+        requires called { is_called D.called self.old ≡ true }
+        requires place { at + length bytes.now ≤ 2 ^ 30 }
+        ensures burns { Burns (WritesOn D.Disk) self.old self.new result }
+        ensures written { OnOk result (Written which at bytes.now (D.files self.old.inner) (D.files self.new.inner)) }
+        ensures torn { OnErr result (TornIn which at (length bytes.now) (D.files self.old.inner) (D.files self.new.inner)) }
+        ensures rest { KeepsRest (λ f. D.label f.inner) (λ f. is_called D.called f) (λ f. is_open D.opened f) (λ f. D.read_faults f.inner + f.reads_refused) self.old self.new }
+        ensures cause { HasCause (D.write_faults self.old.inner + self.old.writes_refused) (D.write_faults self.new.inner + self.new.writes_refused) result }
+        ensures crash { (c : Files) → D.may_leave self.new.inner c → After (ChangesOne which (Torn at (length bytes.now))) (D.may_leave self.old.inner) c }
+        ensures time { Elapses (D.moment self.old.inner) (D.moment self.new.inner) (D.left_since self.old.inner) (D.left_since self.new.inner) (D.may_leave self.new.inner) }
+    {
         if self.left == 0 {
             return Err(raise(&mut self.writes_refused));
         }
@@ -114,7 +161,17 @@ impl<D: Disk> Disk for FuseDisk<D> {
         self.inner.write(which, at, bytes)
     }
 
-    fn cut(&mut self, which: Which, len: u64) -> Result<(), Failed> {
+    fn cut(&mut self, which: Which, len: u64) -> Result<(), Failed>
+        requires called { is_called D.called self.old ≡ true }
+        requires shorter { IfTold (D.files self.old.inner) (λ f. len ≤ length (file which f)) }
+        ensures burns { Burns (WritesOn D.Disk) self.old self.new result }
+        ensures cut { OnOk result (CutTo which len (D.files self.old.inner) (D.files self.new.inner)) }
+        ensures torn { OnErr result (CutIn which len (D.files self.old.inner) (D.files self.new.inner)) }
+        ensures rest { KeepsRest (λ f. D.label f.inner) (λ f. is_called D.called f) (λ f. is_open D.opened f) (λ f. D.read_faults f.inner + f.reads_refused) self.old self.new }
+        ensures cause { HasCause (D.write_faults self.old.inner + self.old.writes_refused) (D.write_faults self.new.inner + self.new.writes_refused) result }
+        ensures crash { (c : Files) → D.may_leave self.new.inner c → After (ChangesOne which (CutShort len)) (D.may_leave self.old.inner) c }
+        ensures time { Elapses (D.moment self.old.inner) (D.moment self.new.inner) (D.left_since self.old.inner) (D.left_since self.new.inner) (D.may_leave self.new.inner) }
+    {
         if self.left == 0 {
             return Err(raise(&mut self.writes_refused));
         }
@@ -123,7 +180,16 @@ impl<D: Disk> Disk for FuseDisk<D> {
         self.inner.cut(which, len)
     }
 
-    fn sync(&mut self, which: Which) -> Result<(), Failed> {
+    fn sync(&mut self, which: Which) -> Result<(), Failed>
+        requires { is_called D.called self.old ≡ true }
+        ensures burns { Burns (WritesOn D.Disk) self.old self.new result }
+        ensures files { D.files self.new.inner ≡ D.files self.old.inner }
+        ensures rest { KeepsRest (λ f. D.label f.inner) (λ f. is_called D.called f) (λ f. is_open D.opened f) (λ f. D.read_faults f.inner + f.reads_refused) self.old self.new }
+        ensures cause { HasCause (D.write_faults self.old.inner + self.old.writes_refused) (D.write_faults self.new.inner + self.new.writes_refused) result }
+        ensures durable { OnOk result ((c : Files) → D.may_leave self.new.inner c → IsSomeAnd (D.files self.new.inner) (λ f. file which c ≡ file which f)) }
+        ensures crash { NoMore (D.may_leave self.old.inner) (D.may_leave self.new.inner) }
+        ensures time { Elapses (D.moment self.old.inner) (D.moment self.new.inner) (D.left_since self.old.inner) (D.left_since self.new.inner) (D.may_leave self.new.inner) }
+    {
         if self.left == 0 {
             return Err(raise(&mut self.writes_refused));
         }

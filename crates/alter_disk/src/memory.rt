@@ -1,11 +1,11 @@
 //! A disk in memory, whose failures its maker chooses.
-ghost use Rattle.std.specs.Prelude.{◌≡◌, ◌+◌, ◌^◌, ◌<◌, ◌≤◌, ◌||◌, [], false, Some, ◌-◌, ◌++◌, length, take, drop, replicate, refl, is_err, vec_len, vec_capacity, string_bytes, IfOk, OnOk, IfErr};
+ghost use Rattle.std.specs.Prelude.{◌≡◌, ◌+◌, ◌^◌, ◌<◌, ◌≤◌, ◌⊎◌, ◌||◌, ◌&&◌, not, nat_lt, nat_le, [], false, true, Some, length, take, drop, refl, is_err, vec_len, vec_capacity, string_bytes, IsOk, IfOk, OnOk, OnErr, IfErr};
 ghost use Rattle.alter_disk.specs.Files.{Files, file};
 ghost use Rattle.alter_disk.specs.Changes.{ReadsAt, Torn, CutShort, ChangesOne, overwritten};
 ghost use Rattle.std.specs.List.{AllByRecursion};
 ghost use Rattle.alter_disk.specs.Crash.{After, NoMore};
-ghost use Rattle.alter_disk.specs.Memory.{Memory, IsSpare, HoldsCalls, HasSlot, fresh, refuses, refuses_write, counted, after_open, after_call, with_bytes, noted, after_write, after_cut, after_sync, stopped_file};
-ghost use Rattle.alter_disk.specs.Pending.{Wrote, Cut, Synced, LeftOf, MayLeave, LeftSince, now_counts, only_now, newest_first, synced_file, filled_file};
+ghost use Rattle.alter_disk.specs.Memory.{Memory, IsSpare, HoldsCalls, HasSlot, fresh, fresh_growing, refuses, refuses_write, Fails, counted, after_open, after_call, with_bytes, noted, after_write, after_cut, after_sync, stopped_file};
+ghost use Rattle.alter_disk.specs.Pending.{Wrote, Cut, Synced, LeftOf, MayLeave, LeftSince, now_counts, only_now, newest_first};
 
 use crate::buffers::Buffers;
 use crate::call::{Call, Change, filled, keep, synced};
@@ -15,13 +15,14 @@ use crate::{Disk, Failed, OpenFault, Way, Which};
 use std::alloc::{AllocError, Global};
 use std::marker::Model;
 
-/// A disk whose files are two buffers of a fixed size. It takes no memory after `new`.
+/// A disk whose files are two buffers. One that `new` makes has a fixed room, and takes no memory after that.
+/// One that is `growing` takes memory as its calls need it, and fails where there is none.
 ///
 /// It keeps what its files were at first and each call that changed what a crash may leave, so that it tells
 /// exactly what a crash may leave now and what it might have left at any moment before.
 ///
-/// Its calls are numbered from 0. A call fails where its number is listed, where the record of calls is
-/// full, or where a write ends past the room. A call that fails changes neither file.
+/// Its calls are numbered from 0. A call of a disk with a fixed room fails where its number is listed, where the
+/// record of calls is full, or where a write ends past the room. A call that fails changes neither file.
 #[derive(Drop)]
 pub struct MemoryDisk {
     alloc: Global,
@@ -48,6 +49,7 @@ impl Model for MemoryDisk {
       files = d.files.files;
       first = record { db = d.first_db.items; journal = d.first_journal.items };
       steps = newest_first d.steps.items;
+      grows = d.files.grows;
       room = d.files.room;
       calls = d.calls;
       made = d.made;
@@ -58,7 +60,7 @@ impl Model for MemoryDisk {
       write_faults = d.write_faults;
     } };
 
-    ghost invariant = { λ d. HoldsCalls d.calls d.made (newest_first d.steps.items) (vec_len d.steps) (vec_len d.spare) (vec_capacity d.steps)
+    ghost invariant = { λ d. HoldsCalls d.files.grows d.calls d.made (newest_first d.steps.items) (vec_len d.steps) (vec_len d.spare) (vec_capacity d.steps)
         × AllByRecursion (IsSpare d.files.room) d.spare.items
         × MayLeave (record { db = d.first_db.items; journal = d.first_journal.items }) (newest_first d.steps.items) d.files.files };
 }
@@ -90,6 +92,33 @@ impl MemoryDisk {
             calls,
             made: 0,
             fails: Vec::from_slice(alloc, fails)?,
+            was_called: false,
+            is_open: false,
+            read_faults: 0,
+            write_faults: 0,
+        })
+    }
+
+    /// A disk that takes the name `name` alone, and whose room and record of calls grow.
+    pub fn growing(
+        alloc: Global,
+        name: &str,
+        db: &[u8],
+        journal: &[u8],
+    ) -> Result<MemoryDisk, AllocError>
+        ensures { IfOk result (λ disk. disk ≡ fresh_growing name.now (record { db = db.now; journal = journal.now })) }
+    {
+        Ok(MemoryDisk {
+            alloc,
+            name: String::from_str(alloc, name)?,
+            first_db: Vec::from_slice(alloc, db)?,
+            first_journal: Vec::from_slice(alloc, journal)?,
+            files: Buffers::growing(alloc, db, journal)?,
+            steps: Vec::new(alloc),
+            spare: Vec::new(alloc),
+            calls: 0,
+            made: 0,
+            fails: Vec::new(alloc),
             was_called: false,
             is_open: false,
             read_faults: 0,
@@ -132,11 +161,12 @@ impl MemoryDisk {
         requires { now.now ≡ file which self.now.files }
         ensures { IfOk result (λ bytes. bytes.items ≡ stopped_file choice which self.now) }
     {
+        let first = self.first_bytes(which);
         match choice {
-            0 => self.synced_file(which),
+            0 => synced(self.alloc, which, first, &self.steps),
             1 => Vec::from_slice(self.alloc, now),
-            2 => self.filled_file(which, 0),
-            _ => self.filled_file(which, 0xd9),
+            2 => filled(self.alloc, which, first, &self.steps, 0),
+            _ => filled(self.alloc, which, first, &self.steps, 0xd9),
         }
     }
 
@@ -149,22 +179,18 @@ impl MemoryDisk {
         }
     }
 
-    fn synced_file(&self, which: Which) -> Result<Vec<u8>, AllocError>
-        ensures { IfOk result (λ bytes. bytes.items ≡ synced_file which (file which self.now.first) self.now.steps) }
+    /// Whether the record of calls has no place for one more.
+    fn is_full(&self) -> bool
+        ensures { result ≡ (not self.now.grows && nat_le self.now.calls self.now.made) }
     {
-        synced(self.alloc, which, self.first_bytes(which), &self.steps)
+        !self.files.grow() && self.calls as u64 <= self.made
     }
 
-    fn filled_file(&self, which: Which, byte: u8) -> Result<Vec<u8>, AllocError>
-        ensures { IfOk result (λ bytes. bytes.items ≡ filled_file byte which (file which self.now.first) self.now.steps) }
+    /// Whether a write ends past the room.
+    fn is_past_room(&self, end: usize) -> bool
+        ensures { result ≡ (not self.now.grows && nat_lt self.now.room end) }
     {
-        filled(
-            self.alloc,
-            which,
-            self.first_bytes(which),
-            &self.steps,
-            byte,
-        )
+        !self.files.grow() && self.files.room() < end
     }
 
     /// Counts a call, and its fault where it fails: because it is `unfit`, or refused whatever it is.
@@ -173,7 +199,7 @@ impl MemoryDisk {
         ensures slot { OnOk result (HasSlot self.new) }
         ensures after { self.new ≡ counted way (refuses self.old || unfit) self.old }
     {
-        let failed = self.fails.contains(&self.made) || self.calls as u64 <= self.made || unfit;
+        let failed = self.fails.contains(&self.made) || self.is_full() || unfit;
         self.made = self.made.saturating_add(1);
         if !failed {
             return Ok(());
@@ -185,34 +211,46 @@ impl MemoryDisk {
     }
 
     /// Writes a piece, and keeps where it stands.
-    fn overlay(&mut self, which: Which, at: usize, piece: &[u8])
+    fn overlay(&mut self, which: Which, at: usize, piece: &[u8]) -> Result<(), AllocError>
         requires end { at + length piece.now < 2 ^ 64 }
-        requires room { at + length piece.now ≤ self.old.room }
+        requires room { self.old.grows ≡ false → at + length piece.now ≤ self.old.room }
         requires slot { HasSlot self.old }
-        ensures { self.new ≡ noted which (Wrote at (at + length piece.now)) (with_bytes which (overwritten (file which self.old.files) at piece.now) self.old) }
+        ensures succeeds { self.old.grows ≡ false → IsOk result }
+        ensures written { OnOk result (self.new ≡ noted which (Wrote at (at + length piece.now)) (with_bytes which (overwritten (file which self.old.files) at piece.now) self.old)) }
+        ensures kept { OnErr result (self.new ≡ self.old) }
     {
-        self.files.overlay(which, at, piece);
+        self.steps.reserve(1)?;
+        self.files.overlay(which, at, piece)?;
         keep(&mut self.steps, which, Change::Wrote(at, at + piece.len()));
+        Ok(())
     }
 
     /// Shortens a file, and keeps its new length.
-    fn truncate(&mut self, which: Which, len: usize)
+    fn truncate(&mut self, which: Which, len: usize) -> Result<(), AllocError>
         requires { HasSlot self.old }
-        ensures { self.new ≡ noted which (Cut len) (with_bytes which (take len (file which self.old.files)) self.old) }
+        ensures succeeds { self.old.grows ≡ false → IsOk result }
+        ensures cut { OnOk result (self.new ≡ noted which (Cut len) (with_bytes which (take len (file which self.old.files)) self.old)) }
+        ensures kept { OnErr result (self.new ≡ self.old) }
     {
+        self.steps.reserve(1)?;
         self.files.truncate(which, len);
         keep(&mut self.steps, which, Change::Cut(len));
+        Ok(())
     }
 
     /// Keeps what a read gives of a file as durable.
-    fn seal(&mut self, which: Which)
+    fn seal(&mut self, which: Which) -> Result<(), AllocError>
         requires { HasSlot self.old }
+        ensures succeeds { self.old.grows ≡ false → IsOk result }
         ensures crash { NoMore (MayLeave self.old.first self.old.steps) (MayLeave self.new.first self.new.steps) }
-        ensures after { self.new ≡ noted which (Synced (file which self.old.files)) self.old }
+        ensures sealed { OnOk result (self.new ≡ noted which (Synced (file which self.old.files)) self.old) }
+        ensures kept { OnErr result (self.new ≡ self.old) }
     {
-        let buffer = self.spare.pop().unwrap();
-        let synced = copied(buffer, self.files.bytes(which));
+        self.steps.reserve(1)?;
+        let bytes = self.files.bytes(which);
+        let synced = copied(self.alloc, self.files.room(), &mut self.spare, bytes)?;
         keep(&mut self.steps, which, Change::Synced(synced));
+        Ok(())
     }
 }
 
@@ -276,36 +314,41 @@ impl Disk for MemoryDisk {
     #[tactic(auto, using(crate::proofs::Pending::write_crash))]
     fn write(&mut self, which: Which, at: u64, bytes: &[u8]) -> Result<(), Failed>
         requires { at + length bytes.now ≤ 2 ^ 30 }
-        ensures failed { is_err result ≡ refuses_write at (length bytes.now) self.old }
+        ensures failed { Fails (refuses_write at (length bytes.now) self.old) self.old (is_err result) }
         ensures crash { (c : Files) → MayLeave self.new.first self.new.steps c → After (ChangesOne which (Torn at (length bytes.now))) (MayLeave self.old.first self.old.steps) c }
-        ensures after { self.new ≡ after_write which at bytes.now self.old }
+        ensures after { self.new ≡ after_write (is_err result) which at bytes.now self.old }
     {
         let at = at as usize;
-        let room = self.files.room();
-        self.count(Way::Write, room < at + bytes.len())?;
-        self.overlay(which, at, bytes);
+        self.count(Way::Write, self.is_past_room(at + bytes.len()))?;
+        if self.overlay(which, at, bytes).is_err() {
+            return Err(raise(&mut self.write_faults));
+        }
         Ok(())
     }
 
     #[tactic(auto, using(crate::proofs::Pending::cut_crash))]
     fn cut(&mut self, which: Which, len: u64) -> Result<(), Failed>
         requires { len ≤ length (file which self.old.files) }
-        ensures failed { is_err result ≡ refuses self.old }
+        ensures failed { Fails (refuses self.old) self.old (is_err result) }
         ensures crash { (c : Files) → MayLeave self.new.first self.new.steps c → After (ChangesOne which (CutShort len)) (MayLeave self.old.first self.old.steps) c }
-        ensures after { self.new ≡ after_cut which len self.old }
+        ensures after { self.new ≡ after_cut (is_err result) which len self.old }
     {
         self.count(Way::Write, false)?;
-        self.truncate(which, len as usize);
+        if self.truncate(which, len as usize).is_err() {
+            return Err(raise(&mut self.write_faults));
+        }
         Ok(())
     }
 
     fn sync(&mut self, which: Which) -> Result<(), Failed>
-        ensures failed { is_err result ≡ refuses self.old }
+        ensures failed { Fails (refuses self.old) self.old (is_err result) }
         ensures crash { NoMore (MayLeave self.old.first self.old.steps) (MayLeave self.new.first self.new.steps) }
-        ensures after { self.new ≡ after_sync which self.old }
+        ensures after { self.new ≡ after_sync (is_err result) which self.old }
     {
         self.count(Way::Write, false)?;
-        self.seal(which);
+        if self.seal(which).is_err() {
+            return Err(raise(&mut self.write_faults));
+        }
         Ok(())
     }
 }
@@ -333,12 +376,34 @@ fn spares(alloc: Global, room: usize, count: usize) -> Result<Vec<Vec<u8>>, Allo
     Ok(buffers)
 }
 
-/// Bytes put into an empty buffer that has room for them.
-fn copied(mut buffer: Vec<u8>, bytes: &[u8]) -> Vec<u8>
-    requires empty { buffer.items ≡ [] }
-    requires room { length bytes.now ≤ vec_capacity buffer }
-    ensures { result.items ≡ bytes.now }
+/// An empty buffer for `room` bytes: a spare one, where there is any.
+fn buffer_of(alloc: Global, room: usize, spare: &mut Vec<Vec<u8>>) -> Result<Vec<u8>, AllocError>
+    requires { AllByRecursion (IsSpare room) spare.old.items }
+    ensures buffer { IfOk result (λ buffer. IsSpare room buffer) }
+    ensures succeeds { 0 < vec_len spare.old → IsOk result }
+    ensures spare { AllByRecursion (IsSpare room) spare.new.items }
+    ensures count { vec_len spare.old ≤ vec_len spare.new + 1 }
 {
-    buffer.extend_from_slice(bytes).unwrap();
-    buffer
+    match spare.pop() {
+        Some(buffer) => Ok(buffer),
+        None => Vec::with_capacity(alloc, room),
+    }
+}
+
+/// Bytes in a buffer of their own, which needs no memory where they fit a spare one.
+fn copied(
+    alloc: Global,
+    room: usize,
+    spare: &mut Vec<Vec<u8>>,
+    bytes: &[u8],
+) -> Result<Vec<u8>, AllocError>
+    requires { AllByRecursion (IsSpare room) spare.old.items }
+    ensures copied { IfOk result (λ copy. copy.items ≡ bytes.now) }
+    ensures failed { OnErr result ((vec_len spare.old ≡ 0) ⊎ (room < length bytes.now)) }
+    ensures spare { AllByRecursion (IsSpare room) spare.new.items }
+    ensures count { vec_len spare.old ≤ vec_len spare.new + 1 }
+{
+    let mut buffer = buffer_of(alloc, room, spare)?;
+    buffer.extend_from_slice(bytes)?;
+    Ok(buffer)
 }
