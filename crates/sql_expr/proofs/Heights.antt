@@ -6,8 +6,6 @@ use Rattle.sql_token.specs.declared.token.Token.{Token}
 use Rattle.sql_token.specs.declared.keyword.Keyword.{Keyword}
 use Rattle.sql_token.specs.declared.keyword.Keyword.TheVariants as K
 use Rattle.sql_token.specs.Fixed.{IsFixed, IsSign}
-use Rattle.sql_expr.specs.Leaf.{BeginsWithout}
-use Rattle.sql_expr.specs.Tree.{sources_tokens}
 use Rattle.sql_expr.specs.Levels.{OpenInSet, OpenOperand, OpenPostfix, OpenArm, OpenTableSource, OpenSelectArm}
 use Rattle.sql_expr.specs.Rules.{Inside, IsInParens, AreCommas, IsAfter, IsBy, IsColumnUse, IsTerm, IsBound, IsFrameExtent, IsFrame, IsWindow, IsNamedWindow, IsCallArguments, IsOver, IsCall, IsWhen, IsCase, IsCast, IsRaiseAction, IsRaise, IsRow, AreArguments, IsInSet, IsOperand, IsPostfix, IsPart, IsInfixPart, IsExpr, IsJoinConstraint, IsTableSource, IsJoinedSource, IsSources, IsCte, IsWith, IsLimit, IsResultItem, IsValuesRow, IsSelectArm, IsArm, IsCompoundArm, IsSelect, InsideAt, UsualAt}
 use Rattle.sql_expr.specs.declared.lists.After.{After}

@@ -1,6 +1,9 @@
+pub mod Alike
 pub mod Fronts
 pub mod Heights
 pub mod Joined
+pub mod Kept
+pub mod KeptRules
 pub mod Leaves
 pub mod Made
 pub mod Maps

@@ -1,7 +1,6 @@
 -- The rules above expressions and selects admit no less at a greater height of these.
 use Rattle.std.proofs.Common.{ℕ, ◌≤◌, List, IfSome}
 use Rattle.std.specs.Prelude.{codes}
-use Rattle.sql_token.specs.declared.token.Token.{Token}
 use Rattle.sql_token.specs.declared.keyword.Keyword.TheVariants as K
 use Rattle.sql_token.specs.Fixed.{IsSign}
 use Rattle.sql_expr.specs.Rules.{IsExprAt, IsSelectAt}
