@@ -1,4 +1,5 @@
 pub mod Alike
+pub mod AlikeEnds
 pub mod Fronts
 pub mod Heights
 pub mod Joined

@@ -26,6 +26,9 @@ use Rattle.sql_expr.specs.declared.expr.InSet.TheOpen.{Operand-F, Postfix-F}
 use Rattle.sql_tree.specs.Keys.{after_postfix, after_postfixes, and_then, operand_of, with_operand, with_first, left_of, left_inside, key_operand, key_inside, as_key_with, as_key}
 use Rattle.sql_tree.specs.Rules.{IsKeyExpr}
 use Rattle.sql_expr.proofs.Heights.{inside_more, higher}
+use Rattle.sql_expr.proofs.Alike.{AlikeAt}
+use Rattle.sql_expr.proofs.Kept.{Edit, Kept, NameBecomes, becomes_column as column_becomes}
+use Rattle.sql_expr.proofs.KeptRules.{kept_at}
 use Rattle.sql_tree.proofs.Keys.{operand_with, kept_with}
 
 abbrev IsCollate : OpenPostfix → Type 0
@@ -516,3 +519,26 @@ key_ruled text n x key = either ((key_said text n x).0 key)
     either : IsStrKey text n x ⊎ (IsExprAt text n x × NoText 1 x) → (InsideAt text (IsKeyColumn text) n).expr x
     either (inl str) = (inside_more text (λ t h. inl h) n n (omega arith)).expr x str.3
     either (inr usual) = (inside_more text (λ t h. inr h) n n (omega arith)).expr x usual.0
+
+-- ---- keys of a text with other names
+
+-- a column's name that stands alone in a key becomes one
+becomes_key_column : (e : Edit) (t : Token) → IsKeyColumn e.old t → NameBecomes e t → IsKeyColumn e.new (e.edit t)
+becomes_key_column e t (inl str) (inl stays) = inl (stays.kind ∙ str)
+becomes_key_column e t (inl str) (inr renamed) =
+    inr (
+      (
+        renamed.name,
+        (
+          renamed.free K.Cast,
+          (renamed.free K.Raise, (renamed.free K.CurrentDate, (renamed.free K.CurrentTime, (renamed.free K.CurrentTimestamp, tt)))),
+        ),
+      ),
+      renamed.no_str,
+    )
+becomes_key_column e t (inr column) becomes = inr (column_becomes e t column becomes)
+
+-- a key of the one text is of the rule of expressions in the other, where a Str may be a column's name as well
+pub key_kept : (e : Edit) (n : ℕ) (x : Expr) → IsKeyExpr e.old n x
+    → Kept e Expr expr_tokens (InsideAt e.new (IsKeyColumn e.new) n).expr (λ d. (AlikeAt d n).expr) x
+key_kept e n x key = (kept_at e (IsKeyColumn e.old) (IsKeyColumn e.new) (becomes_key_column e) n).expr x (key_ruled e.old n x key)
