@@ -1,9 +1,9 @@
 -- How a run of calls goes on, by what a crash may leave at each moment of it.
-use Rattle.std.proofs.Common.{inl, inr, ⊎_elim, refl, ◌∙◌, arith}
+use Rattle.std.proofs.Common.{inl, inr, ⊎_elim, refl, ap, is_some, ◌∙◌, arith}
 use Rattle.alter_disk.specs.declared.disk.Disk.{Ghosts}
 use Rattle.alter_disk.specs.Files.{Files}
 use Rattle.alter_disk.specs.Crash.{Elapses}
-use Rattle.alter_disk.specs.Moments.{Leaves, ReadsQuietly}
+use Rattle.alter_disk.specs.Moments.{Leaves, ReadsQuietly, Stays}
 
 module _ {D : Type 0} (disk : Ghosts D) where
   -- before the first call
@@ -52,4 +52,27 @@ module _ {D : Type 0} (disk : Ghosts D) where
     only = record { files = refl; label = refl; called = refl; later = omega arith; writes_stay = refl };
     crash = λ c left. left;
     stops = started d (disk.may_leave d);
+  }
+
+  -- calls of any kind, and then others
+  pub stays_on : (old mid new : D) → Stays disk old mid → Stays disk mid new → Stays disk old new
+  stays_on old mid new first then_ = record {
+    label = then_.label ∙ first.label;
+    called = then_.called ∙ first.called;
+    telling = then_.telling ∙ first.telling;
+    reads = omega (arith, first.reads, then_.reads);
+    writes = omega (arith, first.writes, then_.writes);
+  }
+
+  -- no call, and calls that only read
+  pub stays_none : (d : D) → Stays disk d d
+  stays_none d = record { label = refl; called = refl; telling = refl; reads = omega arith; writes = omega arith }
+
+  pub stays_read : (old new : D) → ReadsQuietly disk old new → Stays disk old new
+  stays_read old new quiet = record {
+    label = quiet.only.label;
+    called = quiet.only.called;
+    telling = ap is_some quiet.only.files;
+    reads = quiet.only.later;
+    writes = omega (arith, quiet.only.writes_stay);
   }

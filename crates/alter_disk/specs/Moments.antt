@@ -3,6 +3,7 @@ use Rattle.std.specs.Prelude.{◌≡◌, ◌⊎◌, ◌≤◌, ℕ, List, Result
 use Rattle.alter_disk.specs.declared.way.Way.{Way}
 use Rattle.alter_disk.specs.declared.way.Way.TheVariants.{Read, Write}
 use Rattle.alter_disk.specs.declared.which.Which.{Which}
+use Rattle.alter_disk.specs.declared.which.Which.TheVariants.{Db, Journal}
 use Rattle.alter_disk.specs.declared.disk.Disk.{Ghosts}
 use Rattle.alter_disk.specs.Files.{Files, file, other_of}
 use Rattle.alter_disk.specs.Changes.{IfTold, ChangesOne}
@@ -23,6 +24,11 @@ pub record Rests {D : Type 0} (disk : Ghosts D) (which : Which) (bytes : List �
   pub reads : Reads disk which bytes d
   pub crash : (c : Files) → disk.may_leave d c → file which c ≡ bytes
 
+-- nothing is pending: a read gives these two files, and so does each crash
+pub record AtRest {D : Type 0} (disk : Ghosts D) (f : Files) (d : D) : Type 0 where
+  pub db : Rests disk Db f.db d
+  pub journal : Rests disk Journal f.journal d
+
 -- calls that changed one file so, or were cut short in it: where the other one rested, it rests
 pub record ChangesFile {D : Type 0} (disk : Ghosts D) (which : Which) (Change : List ℕ → List ℕ → Type 0) (old new : D) : Type 0 where
   pub other : (b : List ℕ) → Rests disk (other_of which) b old → Rests disk (other_of which) b new
@@ -35,11 +41,10 @@ pub record ReadsQuietly {D : Type 0} (disk : Ghosts D) (old new : D) : Type 0 wh
   pub crash : NoMore (disk.may_leave old) (disk.may_leave new)
   pub stops : Leaves disk old new (disk.may_leave old)
 
--- calls of an opened disk left its label and its opening and told what was told, and no count of faults fell
+-- calls behind the opening left the disk's label, told what was told, and no count of faults fell
 pub record Stays {D : Type 0} (disk : Ghosts D) (old new : D) : Type 0 where
   pub label : disk.label new ≡ disk.label old
   pub called : disk.called new ≡ disk.called old
-  pub opened : disk.opened new ≡ disk.opened old
   pub telling : is_some (disk.files new) ≡ is_some (disk.files old)
   pub reads : disk.read_faults old ≤ disk.read_faults new
   pub writes : disk.write_faults old ≤ disk.write_faults new

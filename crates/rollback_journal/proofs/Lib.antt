@@ -1,4 +1,6 @@
 pub mod Marked
+pub mod Playing
+pub mod Closing
 pub mod Cursors
 pub mod Examples
 pub mod FilePages

@@ -5,12 +5,8 @@ use Rattle.std.proofs.Math.Seq.{take-add}
 use Rattle.alter_disk.specs.Changes.{Torn, CutShort, overwritten}
 use Rattle.alter_disk.proofs.Pending.{torn_whole}
 use Rattle.rollback_journal.specs.Records.{Entry}
-use Rattle.rollback_journal.specs.Playback.{file_page, last_entry, page_after, played, is_known, first_missing}
+use Rattle.rollback_journal.specs.Playback.{file_page, last_entry, page_after, played, is_known, first_missing, KeepsUnjournaled}
 use Rattle.rollback_journal.proofs.FilePages.{page_end, page_beside, page_before_cut, page_written}
-
--- each page up to the size that has no entry and stood in the old file stands in the new one as it was
-pub record KeepsUnjournaled (page size : ℕ) (entries : List Entry) (old new : List ℕ) : Type 0 where
-  pub each : (n : ℕ) → 1 ≤ n → n ≤ size → last_entry entries n ≡ None → n * page ≤ length old → (n * page ≤ length new) × (file_page page new n ≡ file_page page old n)
 
 module _ (page size : ℕ) (entries : List Entry) where
   -- a file that is the same

@@ -1,9 +1,9 @@
 -- Whether a journal has to be played (fileformat2.html, "The Rollback Journal"; atomiccommit.html, "Hot Rollback Journals").
-use Rattle.std.specs.Prelude.{ℕ, ◌+◌, ◌-◌, ◌^◌, ◌==◌, nat_lt, nat_le, Bool, not, ◌&&◌, if◌then◌else◌, List, length, take, drop, Option, Some, None}
+use Rattle.std.specs.Prelude.{◌≡◌, ℕ, ◌+◌, ◌-◌, ◌^◌, ◌==◌, nat_lt, nat_le, Bool, true, not, ◌&&◌, if◌then◌else◌, List, length, take, drop, Option, Some, None}
 use Rattle.rollback_journal.specs.declared.header.Header.{Header}
 use Rattle.rollback_journal.specs.declared.heat.Heat.{Heat}
 use Rattle.rollback_journal.specs.declared.heat.Heat.TheVariants.{Cold, Hot, Super}
-use Rattle.rollback_journal.specs.Header.{header_of, has_magic}
+use Rattle.rollback_journal.specs.Header.{header_of, has_magic, is_allowed}
 
 -- whether a journal of this length has records, by its header: they are counted, and the first is wholly there
 abbrev pub has_records : ℕ → Header → Bool
@@ -30,3 +30,9 @@ heat_with (Some h) named = if named then Super else Hot h
 -- super: it is not cold, has at most 2^30 bytes, and its last eight bytes are the magic; hot: neither
 abbrev pub heat_of : List ℕ → Heat
 heat_of journal = heat_with (live_header (length journal) (take 28 journal)) (names_super (length journal) (drop (length journal - 8) journal))
+
+-- the header of a hot journal has allowed sizes
+abbrev pub IsAllowedHeat : Heat → Type 0
+IsAllowedHeat Cold = Unit {0}
+IsAllowedHeat Super = Unit {0}
+IsAllowedHeat (Hot h) = is_allowed h ≡ true

@@ -5,4 +5,5 @@ pub mod Heat
 pub mod Playback
 pub mod Records
 pub mod Recovery
+pub mod Replay
 pub mod Standing

@@ -1,5 +1,5 @@
 -- What playback leaves of a database (fileformat2.html, "The Rollback Journal").
-use Rattle.std.specs.Prelude.{ℕ, zero, suc, ◌-◌, ◌*◌, ◌==◌, nat_le, Bool, ◌||◌, if◌then◌else◌, List, [], ◌∷◌, ◌++◌, length, take, drop, Option, Some, None, is_some, unwrap_or}
+use Rattle.std.specs.Prelude.{◌≡◌, ◌≤◌, ℕ, zero, suc, ◌-◌, ◌*◌, ◌==◌, nat_le, Bool, ◌||◌, if◌then◌else◌, List, [], ◌∷◌, ◌++◌, length, take, drop, Option, Some, None, is_some, unwrap_or}
 use Rattle.rollback_journal.specs.Records.{Entry}
 
 -- page n, from 1, of a file of pages of this size
@@ -34,3 +34,7 @@ first_missing page (suc n) entries db = elim (first_missing page n entries db) [
   | Some missing ↦ Some missing
   | None ↦ if is_known page entries db (suc n) then None else Some (suc n)
 ]
+
+-- each page up to the size that has no entry and stood in the old file stands in the new one as it was
+pub record KeepsUnjournaled (page size : ℕ) (entries : List Entry) (old new : List ℕ) : Type 0 where
+  pub each : (n : ℕ) → 1 ≤ n → n ≤ size → last_entry entries n ≡ None → n * page ≤ length old → (n * page ≤ length new) × (file_page page new n ≡ file_page page old n)

@@ -1,5 +1,5 @@
 //! Whether a hot journal and the database have each page between them.
-ghost use Rattle.std.specs.Prelude.{◌≡◌, ◌≤◌, ◌^◌, true, Some, List, ℕ, length, IfOk, OnOk};
+ghost use Rattle.std.specs.Prelude.{◌≡◌, ◌≤◌, ◌^◌, true, Some, List, ℕ, length, IfOk, IfErr, OnOk};
 ghost use Rattle.alter_disk.specs.Files.{Files};
 ghost use Rattle.alter_disk.specs.Faults.{HasCause};
 ghost use Rattle.alter_disk.specs.Moments.{ReadsQuietly};
@@ -7,7 +7,7 @@ ghost use Rattle.rollback_journal.specs.Header.{is_allowed};
 ghost use Rattle.rollback_journal.specs.Records.{Entry, record_len, entries_of};
 ghost use Rattle.rollback_journal.specs.Playback.{first_missing};
 ghost use Rattle.rollback_journal.specs.Cursor.{entries_left};
-ghost use Rattle.rollback_journal.specs.Recovery.{Marks, IsMarked, HasCauses};
+ghost use Rattle.rollback_journal.specs.Recovery.{Marks, IsMarked, IsFree, HasCauses};
 
 use crate::cursor::Cursor;
 use crate::fault::RecoverFault;
@@ -29,14 +29,19 @@ pub(crate) fn missing_page<D: Disk>(
     requires within { (len ≤ 2 ^ 30) × (header.now.size ≤ 2 ^ 18) }
     requires room { length buf.old ≡ record_len header.now }
     ensures missing { IfOk result (λ page. (f : Files) → D.files disk.old ≡ Some f → len ≡ length f.journal → page ≡ first_missing header.now.page header.now.size (entries_of f.journal header.now) f.db) }
+    ensures free { IfErr result IsFree }
     ensures reads { ReadsQuietly D.Disk disk.old disk.new }
     ensures cause { HasCauses D.Disk disk.old disk.new result }
 {
     let mut marks = Vec::new(alloc);
     marks.resize(header.size as usize, false)?;
     let mut cursor = Cursor::new(header, len);
-    mark_pages(&mut cursor, disk, buf, &mut marks).map_err(|_| Way::Read)?;
-    let db = db_len(disk).map_err(|_| Way::Read)?;
+    let Ok(()) = mark_pages(&mut cursor, disk, buf, &mut marks) else {
+        return Err(RecoverFault::Failed(Way::Read));
+    };
+    let Ok(db) = db_len(disk) else {
+        return Err(RecoverFault::Failed(Way::Read));
+    };
     Ok(first_missing(&marks, header.page, db))
 }
 

@@ -3,7 +3,8 @@ ghost use Rattle.std.specs.Prelude.{◌≡◌, ◌≤◌, true, Some, length, ta
 ghost use Rattle.alter_disk.specs.Files.{Files};
 ghost use Rattle.alter_disk.specs.Faults.{HasCause};
 ghost use Rattle.alter_disk.specs.Moments.{ReadsQuietly};
-ghost use Rattle.rollback_journal.specs.Heat.{has_records, live_header, names_super, heat_of};
+ghost use Rattle.rollback_journal.specs.Header.{is_allowed};
+ghost use Rattle.rollback_journal.specs.Heat.{has_records, live_header, names_super, heat_of, IsAllowedHeat};
 
 use crate::header::{HEADER_LEN, Header, begins_with_magic, read_header};
 use crate::reads::{journal_len, read_journal};
@@ -27,6 +28,7 @@ const LEN_MAX: u64 = 1 << 30;
 pub fn hot<D: Disk>(disk: &mut D) -> Result<Heat, Failed>
     requires { D.called disk.old ≡ true }
     ensures heat { IfOk result (λ heat. (f : Files) → D.files disk.old ≡ Some f → heat ≡ heat_of f.journal) }
+    ensures sizes { IfOk result IsAllowedHeat }
     ensures reads { ReadsQuietly D.Disk disk.old disk.new }
     ensures cause { HasCause (D.read_faults disk.old) (D.read_faults disk.new) result }
 {
@@ -45,7 +47,7 @@ pub fn hot<D: Disk>(disk: &mut D) -> Result<Heat, Failed>
 /// The header of a journal of this length, where it is not cold.
 fn live<D: Disk>(disk: &mut D, len: u64) -> Result<Option<Header>, Failed>
     requires { D.called disk.old ≡ true }
-    ensures long { IfOk result (λ header. IfSome header (λ _. 28 ≤ len)) }
+    ensures long { IfOk result (λ header. IfSome header (λ h. (28 ≤ len) × (is_allowed h ≡ true))) }
     ensures header { IfOk result (λ header. (f : Files) → D.files disk.old ≡ Some f → len ≡ length f.journal → header ≡ live_header len (take 28 f.journal)) }
     ensures reads { ReadsQuietly D.Disk disk.old disk.new }
     ensures cause { HasCause (D.read_faults disk.old) (D.read_faults disk.new) result }
@@ -61,7 +63,8 @@ fn live<D: Disk>(disk: &mut D, len: u64) -> Result<Option<Header>, Failed>
 /// The header in these bytes, where a journal of this length is not cold.
 fn live_in(len: u64, bytes: &[u8; HEADER_LEN]) -> Option<Header>
     requires { 28 ≤ len }
-    ensures { result ≡ live_header len bytes.now }
+    ensures header { result ≡ live_header len bytes.now }
+    ensures allowed { IfSome result (λ h. is_allowed h ≡ true) }
 {
     let header = read_header(bytes)?;
     if has_records(len, &header) {

@@ -6,8 +6,11 @@ mod cursor;
 mod fault;
 mod header;
 mod heat;
+mod playback;
 mod reads;
 mod record;
+mod recovery;
+mod replay;
 mod sum;
 #[cfg(test)]
 mod tests;
@@ -15,4 +18,5 @@ mod tests;
 pub use fault::RecoverFault;
 pub use header::{Header, header_bytes, read_header};
 pub use heat::{Heat, hot};
+pub use recovery::recover;
 pub use sum::checksum;

@@ -1,6 +1,6 @@
 //! The records of a journal.
 ghost use Rattle.std.specs.Prelude.{◌≡◌, ◌≤◌, ◌+◌, length};
-ghost use Rattle.rollback_journal.specs.Records.{record_len, records_in, verdict_of};
+ghost use Rattle.rollback_journal.specs.Records.{record_len, page_in, records_in, verdict_of};
 
 use crate::header::Header;
 use crate::sum::checksum;
@@ -31,6 +31,14 @@ pub(crate) fn records_in(len: u64, count: u32) -> u64
     if count == u32::MAX { len } else { count as u64 }
 }
 
+/// The page in the bytes of a record.
+pub(crate) fn page_in<'a>(h: &Header, bytes: &'a [u8]) -> &'a [u8]
+    requires { record_len h.now ≤ length bytes.now }
+    ensures { result.now ≡ page_in h.now bytes.now }
+{
+    &bytes[4..4 + h.page as usize]
+}
+
 /// What playback does with the record of these bytes.
 #[tactic(auto, unfolding(crate::specs::Records::verdict_of))]
 pub(crate) fn judge(h: &Header, nonce: u32, bytes: &[u8]) -> Verdict
@@ -40,12 +48,11 @@ pub(crate) fn judge(h: &Header, nonce: u32, bytes: &[u8]) -> Verdict
         return Verdict::End;
     }
     let number = u32_at(bytes, 0);
-    let page = h.page as usize;
     if number == 0 {
         Verdict::End
     } else if h.size < number {
         Verdict::Skip
-    } else if checksum(nonce, &bytes[4..4 + page]) == u32_at(bytes, page + 4) {
+    } else if checksum(nonce, page_in(h, bytes)) == u32_at(bytes, h.page as usize + 4) {
         Verdict::Take(number)
     } else {
         Verdict::End
