@@ -1,6 +1,6 @@
 -- What holds of a file that is not refused.
-use Rattle.std.proofs.Common.{◌≡◌, ℕ, ◌*◌, ◌≤◌, Bool, true, false, cond, Option, Some, None, List, [], ◌∷◌, refl, ap, ap₂, ◌∙◌, ◌^◌, arith}
-use Rattle.std.proofs.lemmas.Bool.{not-false, or_parts, ltb-false, eqb-false}
+use Rattle.std.proofs.Common.{⊎_elim, eqb, sym, subst, ◌≡◌, ℕ, ◌*◌, ◌≤◌, Bool, true, false, cond, Option, Some, None, List, [], ◌∷◌, refl, ap, ap₂, ◌∙◌, ◌^◌, arith}
+use Rattle.std.proofs.lemmas.Bool.{not-false, or_cases, or_parts, ltb-false, eqb-false, eqb-true}
 use Rattle.std.proofs.lemmas.Bool.Decides.{nat_tests}
 use Rattle.std.specs.List.{AllByRecursion, find}
 use Rattle.pager_core.specs.Header.{is_page_size, page_count, page_size, schema_format, usable_size}
@@ -60,3 +60,18 @@ is_shape header len shape accepted has =
       few = omega (arith, has.count, count.1);
       small = omega (arith, both, count.2);
     }
+
+-- what holds of each size of a page
+pub page_cases : (P : ℕ → Type 0) (n : ℕ) → P 512 → P 1024 → P 2048 → P 4096 → P 8192 → P 16384 → P 32768 → P 65536 → is_page_size n ≡ true → P n
+page_cases P n a b c d e f g h is =
+    let at : (k : ℕ) → P k → eqb n k ≡ true → P n = λ k p same. subst P (sym (eqb-true n k same)) p in
+    ⊎_elim (λ is7. ⊎_elim (λ is6. ⊎_elim (λ is5. ⊎_elim (λ is4. ⊎_elim (λ is3. ⊎_elim (λ is2. ⊎_elim (at 512 a) (at 1024 b)
+    (or_cases _ _ is2)) (at 2048 c) (or_cases _ _ is3)) (at 4096 d) (or_cases _ _ is4)) (at 8192 e) (or_cases _ _ is5)) (at 16384 f) (or_cases _ _ is6)) (at 32768 g) (or_cases _ _ is7)) (at 65536 h) (or_cases _ _ is)
+
+-- a page has at most 65536 bytes
+pub page_small : (n : ℕ) → is_page_size n ≡ true → n ≤ 65536
+page_small n is = page_cases (λ k. k ≤ 65536) n (omega arith) (omega arith) (omega arith) (omega arith) (omega arith) (omega arith) (omega arith) (omega arith) is
+
+-- a page has the header whole
+pub page_large : (n : ℕ) → is_page_size n ≡ true → 512 ≤ n
+page_large n is = page_cases (λ k. 512 ≤ k) n (omega arith) (omega arith) (omega arith) (omega arith) (omega arith) (omega arith) (omega arith) (omega arith) is

@@ -50,7 +50,8 @@ impl Kept {
     }
 
     pub(crate) fn before(&self) -> u32
-        ensures { result ≡ self.now.before }
+        ensures before { result ≡ self.now.before }
+        ensures within { (1 ≤ result) × (result ≤ self.now.shape.count) }
     {
         self.before
     }

@@ -54,7 +54,8 @@ impl<D: Disk> Pages<D> {
 
     /// How many pages there were before the changes.
     pub fn before(&self) -> u32
-        ensures { result ≡ before_of self.now }
+        ensures before { result ≡ before_of self.now }
+        ensures within { (1 ≤ result) × (result ≤ (shape_of self.now).count) }
     {
         self.kept.before()
     }
@@ -146,6 +147,7 @@ impl<D: Disk> Pages<D> {
     pub fn stored(&mut self, n: u32) -> Result<Vec<u8>, PageError>
         requires called { D.called (disk_of self.old) ≡ true }
         requires number { IsPage self.old n }
+        ensures sound { IsShape (shape_of self.old) }
         ensures extent { IfOk result (λ bytes. length bytes.items ≡ (shape_of self.old).page) }
         ensures told { IfOk result (λ bytes. IfTold (D.files (disk_of self.old)) (λ files. bytes.items ≡ page_bytes (shape_of self.old).page n files.db)) }
         ensures kept { self.new ≡ with_disk self.old (disk_of self.new) }
@@ -184,6 +186,7 @@ impl<D: Disk> Pages<D> {
         requires changed { is_changed self.old n ≡ true }
         ensures written { OnOk result (Written Which.Db (place_of self.old n) (bytes_of self.old n) (D.files (disk_of self.old)) (D.files (disk_of self.new))) }
         ensures torn { OnErr result (TornIn Which.Db (place_of self.old n) (length (bytes_of self.old n)) (D.files (disk_of self.old)) (D.files (disk_of self.new))) }
+        ensures page { (1 ≤ n) × (length (bytes_of self.old n) ≡ (shape_of self.old).page) }
         ensures kept { self.new ≡ with_disk self.old (disk_of self.new) }
         ensures known { OnOk result (KeepsKnown D.Disk self.old self.new) }
         ensures changes { ChangesFile D.Disk Which.Db (Torn (place_of self.old n) (length (bytes_of self.old n))) (disk_of self.old) (disk_of self.new) }

@@ -1,0 +1,4 @@
+pub mod Opens
+pub mod Plan
+pub mod Records
+pub mod Stages

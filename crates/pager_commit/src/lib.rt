@@ -1,0 +1,10 @@
+//! How the changed pages of a database reach the disk: a crash at any moment leaves the pages before or the pages after.
+#![tactic(auto)]
+
+mod commit;
+mod plan;
+mod records;
+mod stages;
+mod write;
+
+pub use plan::Plan;
