@@ -7,10 +7,10 @@ use Rattle.alter_disk.specs.Outside.{Rises}
 use Rattle.alter_cli.specs.declared.status.Status.{Status}
 use Rattle.alter_cli.specs.declared.status.Status.TheVariants as statuses
 use Rattle.alter_cli.specs.declared.verdict.Verdict.{Verdict}
-use Rattle.alter_cli.specs.Causes.{CanRun, Completes, IsRunStatus, RanWhole, run_status}
+use Rattle.alter_cli.specs.Causes.{CanRun, Completes, RanWhole}
 use Rattle.alter_cli.specs.Ending.{WhereTold}
 use Rattle.alter_cli.specs.Lines.{verdict_lines}
-use Rattle.alter_cli.specs.Outcome.{Outcome, Performed, RanAll, is_done}
+use Rattle.alter_cli.specs.Outcome.{IsRunStatus, Outcome, Performed, RanAll, is_done, run_status}
 use Rattle.alter_cli.specs.Rules.{Rules}
 use Rattle.alter_cli.proofs.StatusLemmas.{no_run}
 

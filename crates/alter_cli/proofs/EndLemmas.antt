@@ -7,9 +7,9 @@ use Rattle.alter_cli.specs.declared.stop.Stop.{Stop}
 use Rattle.alter_cli.specs.declared.stop.Stop.TheVariants.{Misused, Unread, Unreadable, Unwritten, Unprinted}
 use Rattle.alter_cli.specs.declared.status.Status.{Status}
 use Rattle.alter_cli.specs.declared.status.Status.TheVariants as statuses
-use Rattle.alter_cli.specs.Causes.{CanRun, IsExactly, IsFileRefused, IsRunStatus, IsUnserved, run_status}
+use Rattle.alter_cli.specs.Causes.{CanRun, IsExactly, IsFileRefused, IsUnserved}
 use Rattle.alter_cli.specs.Ending.{WhereSinkTells, WhereTold}
-use Rattle.alter_cli.specs.Outcome.{Performed, Printed}
+use Rattle.alter_cli.specs.Outcome.{IsRunStatus, Performed, Printed, run_status}
 use Rattle.alter_cli.specs.Rules.{Rules}
 use Rattle.alter_cli.specs.Stops.{CanRunTold, GaveLines, IsCaused, IsEnd, RanSo, stop_status}
 use Rattle.alter_cli.proofs.FinishLemmas.{performed_told_ok, performed_told_stop}

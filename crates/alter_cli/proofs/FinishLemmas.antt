@@ -11,11 +11,10 @@ use Rattle.alter_cli.specs.declared.stop.Stop.TheVariants.{Misused, Unprinted}
 use Rattle.alter_cli.specs.declared.status.Status.{Status}
 use Rattle.alter_cli.specs.declared.status.Status.TheVariants as statuses
 use Rattle.alter_cli.specs.declared.verdict.Verdict.{Verdict}
-use Rattle.alter_cli.specs.Causes.{run_status}
 use Rattle.alter_cli.specs.Ending.{WhereTold}
 use Rattle.alter_cli.specs.Given.{WroteFront}
 use Rattle.alter_cli.specs.Lines.{verdict_lines}
-use Rattle.alter_cli.specs.Outcome.{Outcome, Performed, Told, Misused as MisusedCall}
+use Rattle.alter_cli.specs.Outcome.{Outcome, Performed, Told, Misused as MisusedCall, run_status}
 use Rattle.alter_cli.specs.Rules.{Rules}
 use Rattle.alter_cli.specs.Stops.{RanSo, IsLast, stop_status, stop_line}
 use Rattle.alter_cli.proofs.Grown.{verdict_lines-one}

@@ -87,10 +87,10 @@ run_cause Part Shut Write Sunk form number command before after had now stop wro
 
 -- what the sink was given before a command stopped
 pub gave_stop : (Part Shut Sunk : Type 0) (form : Form) (count number : ℕ) (command : Command) (before after : Option Files)
-    (given had now : Option (List ℕ)) (stop : Stop) → (Shut → Sunk) → number ≡ count + 1 → NotRun Part Shut form number command before after had now stop
-    → WhereSinkTells given had (GaveSo count) → WhereSinkTells given now (λ g n. GaveLines Sunk g n (Err stop))
-gave_stop Part Shut Sunk form count number command before after given had now Memory shut at why is = gave_memory Sunk given had now count why.1 is
-gave_stop Part Shut Sunk form count number command before after given had now Unwritten shut at why is = gave_unwritten Sunk given had now count why.3 is
-gave_stop Part Shut Sunk form count number command before after given had now Unprinted shut at why is =
-    gave_front Sunk given had now count number (verdict_on form command) (shut why.0) at why.2 is
-gave_stop Part Shut Sunk form count number command before after given had now stop shut at why is = absurd why
+    (given had now : Option (List ℕ)) (all_done : Bool) (stop : Stop) → (Shut → Sunk) → number ≡ count + 1 → NotRun Part Shut form number command before after had now stop
+    → WhereSinkTells given had (GaveSo count all_done) → WhereSinkTells given now (λ g n. GaveLines Sunk g n (Err stop))
+gave_stop Part Shut Sunk form count number command before after given had now all_done Memory shut at why is = gave_memory Sunk given had now count all_done why.1 is
+gave_stop Part Shut Sunk form count number command before after given had now all_done Unwritten shut at why is = gave_unwritten Sunk given had now count all_done why.3 is
+gave_stop Part Shut Sunk form count number command before after given had now all_done Unprinted shut at why is =
+    gave_front Sunk given had now count number all_done (verdict_on form command) (shut why.0) at why.2 is
+gave_stop Part Shut Sunk form count number command before after given had now all_done stop shut at why is = absurd why

@@ -9,10 +9,9 @@ use Rattle.alter_cli.specs.declared.stop.Stop.{Stop}
 use Rattle.alter_cli.specs.declared.stop.Stop.TheVariants.{TooLong, Unspelled, Unread, Unserved, Unreadable, Unwritten, Unprinted, Memory}
 use Rattle.alter_cli.specs.declared.verdict.Verdict.{Verdict}
 use Rattle.alter_cli.specs.declared.status.Status.TheVariants as statuses
-use Rattle.alter_cli.specs.Causes.{run_status}
 use Rattle.alter_cli.specs.Ending.{WhereTold}
 use Rattle.alter_cli.specs.Lines.{verdict_lines}
-use Rattle.alter_cli.specs.Outcome.{IsNextDone, IsServed, Outcome, Ran, is_done}
+use Rattle.alter_cli.specs.Outcome.{IsNextDone, IsServed, Outcome, Ran, is_done, run_status}
 use Rattle.alter_cli.specs.Rules.{Rules}
 use Rattle.alter_cli.specs.Run.{Run}
 use Rattle.alter_cli.specs.Stops.{NoForm, NoScript, OfImage, OpensOf, RanEach, RanSo, StoppedAt, TornAt, UnprintedAt}

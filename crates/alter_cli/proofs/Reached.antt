@@ -19,7 +19,7 @@ use Rattle.common_laws.proofs.Lists.{take_one}
 use Rattle.alter_cli.proofs.Grown.{length-run, run-grows, verdict_lines-push}
 
 -- every verdict and one more is done
-all_push : (vs : List Verdict) (v : Verdict) → (list_all is_done vs && is_done v) ≡ list_all is_done (vs ++ v ∷ [])
+pub all_push : (vs : List Verdict) (v : Verdict) → (list_all is_done vs && is_done v) ≡ list_all is_done (vs ++ v ∷ [])
 all_push vs v = ap (λ b. list_all is_done vs && b) (and_true (is_done v)) ∙ sym (list_all-append is_done vs (v ∷ []))
   where
     and_true : (b : Bool) → b ≡ (b && true)

@@ -7,7 +7,8 @@ use Rattle.alter_cli.specs.declared.status.Status.{Status}
 use Rattle.alter_cli.specs.declared.status.Status.TheVariants as statuses
 use Rattle.alter_cli.specs.declared.stop.Stop.{Stop}
 use Rattle.alter_cli.specs.declared.stop.Stop.TheVariants.{Misused, TooLong, Unspelled, Unread, Unserved, Unreadable, Unwritten, Unprinted, Memory}
-use Rattle.alter_cli.specs.Causes.{CanRun, IsExactly, IsFileRefused, IsRunStatus, IsUnserved}
+use Rattle.alter_cli.specs.Causes.{CanRun, IsExactly, IsFileRefused, IsUnserved}
+use Rattle.alter_cli.specs.Outcome.{IsRunStatus}
 use Rattle.alter_cli.specs.Rules.{Rules}
 use Rattle.alter_cli.specs.Stops.{CanRunTold, IsCaused, IsRunStop, IsScriptTold, IsStopStatus, NoForm, NoScript, OpensOf, stop_status}
 use Rattle.alter_cli.proofs.PerformLemmas.{Commands_read}

@@ -1,24 +1,15 @@
 -- When each status comes, and what a call that is run to its end leaves.
-use Rattle.std.specs.Prelude.{◌≡◌, ◌⊎◌, ◌≤◌, ℕ, ◌+◌, Bool, true, false, List, [], ◌++◌, drop}
+use Rattle.std.specs.Prelude.{◌≡◌, ◌⊎◌, ◌≤◌, ℕ, ◌+◌, List, [], ◌++◌, drop}
 use Rattle.std.specs.List.{list_all}
 use Rattle.alter_disk.specs.Files.{Files}
 use Rattle.alter_disk.specs.Outside.{Rises}
 use Rattle.alter_cli.specs.declared.status.Status.{Status}
-use Rattle.alter_cli.specs.declared.status.Status.TheVariants.{Done, Refused, Fault}
+use Rattle.alter_cli.specs.declared.status.Status.TheVariants.{Fault}
 use Rattle.alter_cli.specs.declared.status.Status.TheVariants as statuses
 use Rattle.alter_cli.specs.declared.verdict.Verdict.{Verdict}
 use Rattle.alter_cli.specs.Lines.{verdict_lines}
 use Rattle.alter_cli.specs.Rules.{Rules}
-use Rattle.alter_cli.specs.Outcome.{IsServed, RanAll, is_done, script_limit}
-
--- the script was run to its end
-abbrev pub IsRunStatus : Status → Type 0
-IsRunStatus status = (status ≡ Done) ⊎ (status ≡ Refused)
-
--- the status of a call that ran every command, each of them done or not
-abbrev pub run_status : Bool → Status
-run_status true = statuses.Done
-run_status false = statuses.Refused
+use Rattle.alter_cli.specs.Outcome.{IsRunStatus, IsServed, RanAll, is_done, run_status, script_limit}
 
 -- such a status comes only under the condition; and under it, unless want of memory or a fault with one of the causes comes
 pub record IsExactly (Wanted : Status → Type 0) (Condition Cause : Type 0) (status : Status) : Type 0 where

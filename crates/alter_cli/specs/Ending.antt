@@ -5,8 +5,8 @@ use Rattle.alter_disk.specs.Changes.{IfTold}
 use Rattle.alter_disk.specs.Outside.{NoneFell, Span, rises}
 use Rattle.alter_cli.specs.declared.status.Status.{Status}
 use Rattle.alter_cli.specs.declared.status.Status.TheVariants.{Fault, File, Script, Usage}
-use Rattle.alter_cli.specs.Causes.{CanRun, Completes, IsExactly, IsFileRefused, IsFrontTaken, IsRunStatus, IsUnserved}
-use Rattle.alter_cli.specs.Outcome.{Misused, Performed, Printed, file_of}
+use Rattle.alter_cli.specs.Causes.{CanRun, Completes, IsExactly, IsFileRefused, IsFrontTaken, IsUnserved}
+use Rattle.alter_cli.specs.Outcome.{IsRunStatus, Misused, Performed, Printed, file_of}
 use Rattle.alter_cli.specs.Rules.{Rules}
 
 -- a fact on what source, disk and sink told before and tell now, which holds where one of them tells nothing

@@ -27,6 +27,19 @@ abbrev pub is_done : Verdict → Bool
 is_done verdicts.Done = true
 is_done (verdicts.Refused refusal) = false
 
+-- the script was run to its end
+abbrev pub IsRunStatus : Status → Type 0
+IsRunStatus status = (status ≡ Done) ⊎ (status ≡ Refused)
+
+-- the status of a call that ran every command, each of them done or not
+abbrev pub run_status : Bool → Status
+run_status true = Done
+run_status false = Refused
+
+-- the status of a call that ran no command
+abbrev pub IsUnrunStatus : Status → Type 0
+IsUnrunStatus status = (status ≡ Script) ⊎ (status ≡ File) ⊎ (status ≡ Usage)
+
 -- the last line that goes with a status, by the counts that rose
 abbrev pub IsLastLine : Rises → Status → List ℕ → Type 0
 IsLastLine rose Done line = line ≡ []
@@ -47,11 +60,14 @@ Told rose planned verdicts last given now status =
     × (verdict_lines (1 + length printed) others ++ last ≡ front ++ rest)))
 
 -- the sink was given the lines of some verdicts, from 1 on, and then the last line of the status, or a front of such lines
--- after a failure of the sink
+-- after a failure of the sink: all the verdicts are done exactly where the status says so, and there is none where no
+-- command was run
 pub record Printed (rose : Rises) (given now : List ℕ) (status : Status) : Type 0 where
   pub planned : Status
   pub verdicts : List Verdict
   pub last : List ℕ
+  pub run : IsRunStatus planned → planned ≡ run_status (list_all is_done verdicts)
+  pub none : IsUnrunStatus planned → verdicts ≡ []
   pub line : IsLastLine rose planned last
   pub told : Told rose planned verdicts last given now status
 

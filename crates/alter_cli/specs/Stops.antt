@@ -10,11 +10,11 @@ use Rattle.alter_cli.specs.declared.verdict.Verdict.{Verdict}
 use Rattle.alter_cli.specs.declared.verdict.Verdict.TheVariants.{Done}
 use Rattle.alter_cli.specs.declared.status.Status.{Status}
 use Rattle.alter_cli.specs.declared.status.Status.TheVariants as statuses
-use Rattle.alter_cli.specs.Causes.{CanRun, IsFileRefused, IsUnserved, run_status}
+use Rattle.alter_cli.specs.Causes.{CanRun, IsFileRefused, IsUnserved}
 use Rattle.alter_cli.specs.Ending.{WhereTold}
 use Rattle.alter_cli.specs.Given.{WroteFront}
 use Rattle.alter_cli.specs.Lines.{verdict_line, verdict_lines, usage_line, too_long_line, script_unbuilt_line, file_unbuilt_line, fault_read_line, fault_write_line, memory_line}
-use Rattle.alter_cli.specs.Outcome.{IsServed, Outcome, is_done, script_limit}
+use Rattle.alter_cli.specs.Outcome.{IsServed, Outcome, is_done, run_status, script_limit}
 use Rattle.alter_cli.specs.Rules.{Rules}
 use Rattle.alter_cli.specs.Run.{Run}
 
@@ -62,9 +62,14 @@ abbrev pub IsEnd : Type 0 → Result Bool Stop → Status → Option (List ℕ) 
 IsEnd Sunk (Ok all_done) status had now = (status ≡ run_status all_done) × (now ≡ had)
 IsEnd Sunk (Err stop) status had now = IsStopStatus Sunk stop status × IfTold had (λ given. IsSomeAnd now (IsLast Sunk stop status given))
 
--- what a sink was given by a run of commands, each of them done or not, or stopped so
+-- what a sink was given by a run of commands, each of them done or not, or stopped so; nothing where the script or the file
+-- was refused
 abbrev pub GaveLines : Type 0 → List ℕ → List ℕ → Result Bool Stop → Type 0
-GaveLines Sunk given now (Ok all_done) = (verdicts : List Verdict) × (now ≡ given ++ verdict_lines 1 verdicts)
+GaveLines Sunk given now (Ok all_done) =
+    (verdicts : List Verdict) × (all_done ≡ list_all is_done verdicts) × (now ≡ given ++ verdict_lines 1 verdicts)
+GaveLines Sunk given now (Err TooLong) = now ≡ given
+GaveLines Sunk given now (Err Unspelled) = now ≡ given
+GaveLines Sunk given now (Err Unserved) = now ≡ given
 GaveLines Sunk given now (Err Unprinted) =
     Sunk × ((verdicts : List Verdict) × (verdict : Verdict)
     × WroteFront (given ++ verdict_lines 1 verdicts) (verdict_line (1 + length verdicts) verdict) (Some now))

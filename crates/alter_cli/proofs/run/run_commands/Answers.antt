@@ -84,7 +84,8 @@ loop-command-preserved g c =
       ready = c.in-Ok.ensures.ready;
       number = ap (λ n. n + 1) c.loop-command.invariant.number;
       printed = gave_more (g.K.Sink.written c.args.out.now) (g.K.Sink.written c.loop-command.out) (g.K.Sink.written c.run_command.new.out)
-          c.loop-command.command-index (c.loop-command.number + 1) c.in-Ok.verdict (ap (λ n. n + 1) c.loop-command.invariant.number) c.in-Ok.ensures.line
+          c.loop-command.command-index (c.loop-command.number + 1) c.in-Ok.verdict c.loop-command.all_done c.if-all_done.all_done
+          (ap (λ n. n + 1) c.loop-command.invariant.number) all c.in-Ok.ensures.line
           c.loop-command.invariant.printed;
       writes = record {
         telling = c.run_command.ensures.writes.telling ∙ c.loop-command.invariant.writes.telling;
@@ -115,5 +116,5 @@ returns-in-Err-clause-printed g c =
     (Rose (g.K.Sink.faults c.loop-command.out) (g.K.Sink.faults c.run_command.new.out)) (Rose (g.K.Sink.faults c.args.out.now) (g.K.Sink.faults c.run_command.new.out))
     c.loop-command.form c.loop-command.command-index (c.loop-command.number + 1) c.command-item.result
     (g.D.Disk.files c.loop-command.disk) (g.D.Disk.files c.run_command.new.disk) (g.K.Sink.written c.args.out.now) (g.K.Sink.written c.loop-command.out)
-    (g.K.Sink.written c.run_command.new.out) c.in-Err.stop (λ r. omega (arith, c.loop-command.invariant.sink, r))
+    (g.K.Sink.written c.run_command.new.out) c.loop-command.all_done c.in-Err.stop (λ r. omega (arith, c.loop-command.invariant.sink, r))
     (ap (λ n. n + 1) c.loop-command.invariant.number) c.in-Err.ensures.stop c.loop-command.invariant.printed

@@ -15,7 +15,7 @@ invariant-loop-command g l = record {
       (λ image given. Reached first_rules (λ i. IsFormOf i l.form) image (take l.command-index l.commands) given (g.D.Disk.files l.disk) (g.K.Sink.written l.out) l.all_done);
   ready : IsReady l.form;
   number : l.number ≡ l.command-index;
-  printed : WhereSinkTells (g.K.Sink.written l.fn.out) (g.K.Sink.written l.out) (GaveSo l.command-index);
+  printed : WhereSinkTells (g.K.Sink.written l.fn.out) (g.K.Sink.written l.out) (GaveSo l.command-index l.all_done);
   writes : OnlyWrites g.D.Disk l.fn.disk l.disk;
   sink : g.K.Sink.faults l.fn.out ≤ g.K.Sink.faults l.out;
 }
