@@ -2,6 +2,7 @@
 use Rattle.std.proofs.Common.{List, None, Option, Some, [], ap, arith, false, inl, length, refl, subst, suc, sym, true, zero, ℕ, ⊎_elim, ◌++◌, ◌+◌, ◌<◌, ◌∙◌, ◌∷◌, ◌≡◌, ◌≤◌, ◌⊎◌}
 use Rattle.std.proofs.lemmas.Bool.{both_ways, cases_lt}
 use Rattle.std.proofs.lemmas.List.{append-nil}
+use Rattle.sql_token.specs.Spelled.{one}
 use Rattle.sql_token.specs.declared.token.Token.{Token}
 use Rattle.sql_expr.proofs.Heights.{higher}
 use Rattle.sql_expr.specs.Rules.{IsExprAt, IsSelectAt, SpellsExpr, SpellsSelect, UsualAt}
@@ -10,7 +11,7 @@ use Rattle.sql_expr.specs.declared.expr.Expr.{Expr}
 use Rattle.sql_expr.specs.declared.select.Select.{Select}
 use Rattle.sql_reader.proofs.Laws.{Reads}
 use Rattle.sql_reader.proofs.Loops.{goes_on}
-use Rattle.sql_reader.proofs.Outcomes.{reach}
+use Rattle.sql_reader.proofs.Outcomes.{reach, same_outcome}
 use Rattle.sql_reader.specs.Looks.{Look}
 use Rattle.sql_reader.specs.Reading.{Read, Reading, child}
 use Rattle.sql_reader.specs.Sorts.{sort_of}
@@ -149,3 +150,10 @@ module _ (text : List ℕ) where
       select_enough n (height + n) ts (omega arith) (omega arith)
       ∙ ap (λ l. (read_at sort (height + n)).select l) whole
       ∙ laws.complete x [] (wider.select x spells.0.1) refl
+
+  -- one tree at most spells the tokens
+  pub one_expr : (ts : List Token) (x y : Expr) → SpellsExpr text x ts → SpellsExpr text y ts → x ≡ y
+  one_expr ts x y one other = (same_outcome x y [] [] (sym (expr_read ts x one) ∙ expr_read ts y other)).0
+
+  pub one_select : (ts : List Token) (x y : Select) → SpellsSelect text x ts → SpellsSelect text y ts → x ≡ y
+  one_select ts x y one other = (same_outcome x y [] [] (sym (select_read ts x one) ∙ select_read ts y other)).0

@@ -1,3 +1,4 @@
+pub mod BeforeLaws
 pub mod CallLaws
 pub mod LeafLaws
 pub mod LevelLaws

@@ -38,7 +38,7 @@ use Rattle.query_parse.proofs.OperatorLaws.{IsNotBare, IsOtherInfix, literal_rea
 use Rattle.query_parse.proofs.WindowLaws.{exprs_reads}
 use Rattle.query_parse.specs.Exprs.{Inner, select}
 use Rattle.query_parse.specs.Lists.{pair}
-use Rattle.query_parse.specs.Operands.{arguments, expr_level, in_set, infix_part, infix_part_of, infix_parts, is_part, list_parens, operand, opt_exprs, opt_row, part, postfix, postfixes, prefixes, query, read_arguments, read_expr_level, read_in_set, read_infix_part, read_infix_parts, read_is_part, read_list_parens, read_operand, read_opt_exprs, read_opt_row, read_part, read_postfix, read_postfixes, read_prefixes, read_query, read_row, read_row_parens, read_subquery, row, row_parens, subquery}
+use Rattle.query_parse.specs.Operands.{arguments, expr_level, in_set, infix_part, infix_part_of, infix_parts, is_part, list_parens, operand, opt_exprs, opt_row, parens_starts, part, postfix, postfixes, prefixes, query, read_arguments, read_expr_level, read_free_part, read_in_set, read_infix_part, read_infix_parts, read_is_part, read_list_parens, read_operand, read_opt_exprs, read_opt_row, read_other_operand, read_part, read_postfix, read_postfixes, read_prefixes, read_query, read_row, read_row_parens, read_subquery, row, row_parens, subquery}
 use Rattle.query_parse.specs.Operators.{operator}
 use Rattle.sql_expr.specs.declared.expr.InSet.TheVariants as InSet'
 use Rattle.sql_expr.specs.declared.operators.Infix.TheVariants as Infix'
@@ -80,30 +80,30 @@ operand_out : (x : Operand) (o : OpenOperand) → roll-Operand o ≡ x → o ≡
 operand_out x o e = sym (out-roll-Operand o) ∙ ap out-Operand e
 
 operand_covers : (text : List ℕ) (inside : Inside) (x : Operand) (o : OpenOperand) → out-Operand x ≡ o → IsOperand text inside o
-    → Covers (λ v. Operand'.Case v) (IsCase text inside) x
-    ⊎ (Covers (λ v. Operand'.Cast v) (IsCast text inside) x
-    ⊎ (Covers (λ v. Operand'.Raise v) (IsRaise text inside) x
-    ⊎ (Covers (λ (v : Option Token × InParens Select). Operand'.Subquery v.0 v.1) (IsSubquery text inside) x
+    → Covers (λ (v : Option Token × InParens Select). Operand'.Subquery v.0 v.1) (IsSubquery text inside) x
     ⊎ (Covers (λ v. Operand'.Call v) (IsCall text inside) x
     ⊎ (Covers (λ v. Operand'.Literal v) (IsLiteral text) x
     ⊎ (Covers (λ v. Operand'.Column v) (IsColumnUse text inside) x
-    ⊎ Covers (λ v. Operand'.Exprs v) (IsInParens text (IsRow text inside)) x))))))
-operand_covers text inside x (Operand-F.Case v) e h =
-    inl (v, operand_is x (Operand-F.Case v) e ∙ Operand'.rolls-Case v, h)
-operand_covers text inside x (Operand-F.Cast v) e h =
-    inr (inl (v, operand_is x (Operand-F.Cast v) e ∙ Operand'.rolls-Cast v, h))
-operand_covers text inside x (Operand-F.Raise v) e h =
-    inr (inr (inl (v, operand_is x (Operand-F.Raise v) e ∙ Operand'.rolls-Raise v, h)))
+    ⊎ (Covers (λ v. Operand'.Exprs v) (IsInParens text (IsRow text inside)) x
+    ⊎ (Covers (λ v. Operand'.Case v) (IsCase text inside) x
+    ⊎ (Covers (λ v. Operand'.Cast v) (IsCast text inside) x
+    ⊎ Covers (λ v. Operand'.Raise v) (IsRaise text inside) x))))))
 operand_covers text inside x (Operand-F.Subquery exists select) e h =
-    inr (inr (inr (inl ((exists, select), operand_is x (Operand-F.Subquery exists select) e ∙ Operand'.rolls-Subquery exists select, (h.0, h.1)))))
+    inl ((exists, select), operand_is x (Operand-F.Subquery exists select) e ∙ Operand'.rolls-Subquery exists select, (h.0, h.1))
 operand_covers text inside x (Operand-F.Call v) e h =
-    inr (inr (inr (inr (inl (v, operand_is x (Operand-F.Call v) e ∙ Operand'.rolls-Call v, h)))))
+    inr (inl (v, operand_is x (Operand-F.Call v) e ∙ Operand'.rolls-Call v, h))
 operand_covers text inside x (Operand-F.Literal v) e h =
-    inr (inr (inr (inr (inr (inl (v, operand_is x (Operand-F.Literal v) e ∙ Operand'.rolls-Literal v, h))))))
+    inr (inr (inl (v, operand_is x (Operand-F.Literal v) e ∙ Operand'.rolls-Literal v, h)))
 operand_covers text inside x (Operand-F.Column v) e h =
-    inr (inr (inr (inr (inr (inr (inl (v, operand_is x (Operand-F.Column v) e ∙ Operand'.rolls-Column v, h)))))))
+    inr (inr (inr (inl (v, operand_is x (Operand-F.Column v) e ∙ Operand'.rolls-Column v, h))))
 operand_covers text inside x (Operand-F.Exprs v) e h =
-    inr (inr (inr (inr (inr (inr (inr (v, operand_is x (Operand-F.Exprs v) e ∙ Operand'.rolls-Exprs v, h)))))))
+    inr (inr (inr (inr (inl (v, operand_is x (Operand-F.Exprs v) e ∙ Operand'.rolls-Exprs v, h)))))
+operand_covers text inside x (Operand-F.Case v) e h =
+    inr (inr (inr (inr (inr (inl (v, operand_is x (Operand-F.Case v) e ∙ Operand'.rolls-Case v, h))))))
+operand_covers text inside x (Operand-F.Cast v) e h =
+    inr (inr (inr (inr (inr (inr (inl (v, operand_is x (Operand-F.Cast v) e ∙ Operand'.rolls-Cast v, h)))))))
+operand_covers text inside x (Operand-F.Raise v) e h =
+    inr (inr (inr (inr (inr (inr (inr (v, operand_is x (Operand-F.Raise v) e ∙ Operand'.rolls-Raise v, h)))))))
 
 postfix_is : (x : Postfix) (o : OpenPostfix) → out-Postfix x ≡ o → x ≡ roll-Postfix o
 postfix_is x o e = sym (roll-out-Postfix x) ∙ ap roll-Postfix e
@@ -241,7 +241,7 @@ module _ {text : List ℕ} {n : ℕ} {inside : Inside} {inner twin : Inner} wher
       (variant_reads (query_reads nested) (λ v. in_set_tokens-Query v)
       (λ v h. subst (IsInSet text inside) (in_set_out (InSet'.Query v) (InSet-F.Query v) (InSet'.rolls-Query v)) h))
       (choice_reads
-      (variant_reads (list_parens_reads nested) (λ v. in_set_tokens-List v)
+      (variant_reads (widened_reads {starts = parens_starts} {goes_on = []} (list_parens_reads nested) refl refl) (λ v. in_set_tokens-List v)
       (λ v h. subst (IsInSet text inside) (in_set_out (InSet'.List v) (InSet-F.List v) (InSet'.rolls-List v)) h))
       (choice_reads
       (variant_reads (lead_reads (name_fits text) (arguments_reads nested)) (λ v. in_set_tokens-Function v.0 v.1)
@@ -258,21 +258,12 @@ module _ {text : List ℕ} {n : ℕ} {inside : Inside} {inner twin : Inner} wher
   unfolding read_subquery
   subquery_reads nested = seq_reads (opt_leaf_reads text (word_fits text K.Exists)) (query_reads nested) refl
 
-  -- CASE .. | CAST .. | RAISE .. | [EXISTS] "(" select ")" | call | literal | column-use | "(" exprs ")"
+  -- [EXISTS] "(" select ")" | call | literal | column-use | "(" exprs ")" | CASE .. | CAST .. | RAISE ..
   pub operand_reads : Nested text n inside inner twin → Reads (sort_of text) Operand (λ x. IsOperand text inside (out-Operand x)) (λ x. IsOperand text inside (out-Operand x)) operand_tokens n
       (operand (sort_of text) inner) (read_operand (sort_of text) twin)
-  unfolding read_operand
+  unfolding read_operand read_other_operand
   operand_reads nested =
       ruled
-      (choice_reads
-      (variant_reads (case_reads nested) (λ v. operand_tokens-Case v)
-      (λ v h. subst (IsOperand text inside) (operand_out (Operand'.Case v) (Operand-F.Case v) (Operand'.rolls-Case v)) h))
-      (choice_reads
-      (variant_reads (cast_reads nested) (λ v. operand_tokens-Cast v)
-      (λ v h. subst (IsOperand text inside) (operand_out (Operand'.Cast v) (Operand-F.Cast v) (Operand'.rolls-Cast v)) h))
-      (choice_reads
-      (variant_reads (raise_reads nested) (λ v. operand_tokens-Raise v)
-      (λ v h. subst (IsOperand text inside) (operand_out (Operand'.Raise v) (Operand-F.Raise v) (Operand'.rolls-Raise v)) h))
       (choice_reads
       (variant_reads (subquery_reads nested) (λ v. operand_tokens-Subquery v.0 v.1)
       (λ v h. subst (IsOperand text inside) (operand_out (Operand'.Subquery v.0 v.1) (Operand-F.Subquery v.0 v.1) (Operand'.rolls-Subquery v.0 v.1)) (h.0, h.1)))
@@ -285,8 +276,17 @@ module _ {text : List ℕ} {n : ℕ} {inside : Inside} {inner twin : Inner} wher
       (choice_reads
       (variant_reads (column_use_reads text inside nested.column) (λ v. operand_tokens-Column v)
       (λ v h. subst (IsOperand text inside) (operand_out (Operand'.Column v) (Operand-F.Column v) (Operand'.rolls-Column v)) h))
-      (variant_reads (row_parens_reads nested) (λ v. operand_tokens-Exprs v)
+      (choice_reads
+      (variant_reads (widened_reads {starts = parens_starts} {goes_on = []} (row_parens_reads nested) refl refl) (λ v. operand_tokens-Exprs v)
       (λ v h. subst (IsOperand text inside) (operand_out (Operand'.Exprs v) (Operand-F.Exprs v) (Operand'.rolls-Exprs v)) h))
+      (choice_reads
+      (variant_reads (case_reads nested) (λ v. operand_tokens-Case v)
+      (λ v h. subst (IsOperand text inside) (operand_out (Operand'.Case v) (Operand-F.Case v) (Operand'.rolls-Case v)) h))
+      (choice_reads
+      (variant_reads (cast_reads nested) (λ v. operand_tokens-Cast v)
+      (λ v h. subst (IsOperand text inside) (operand_out (Operand'.Cast v) (Operand-F.Cast v) (Operand'.rolls-Cast v)) h))
+      (variant_reads (raise_reads nested) (λ v. operand_tokens-Raise v)
+      (λ v h. subst (IsOperand text inside) (operand_out (Operand'.Raise v) (Operand-F.Raise v) (Operand'.rolls-Raise v)) h))
       refl refl refl) refl refl refl) refl refl refl) refl refl refl) refl refl refl) refl refl refl) refl refl refl)
       (λ x h. h)
       (λ x h. operand_covers text inside x (out-Operand x) refl h)
@@ -340,7 +340,7 @@ module _ {text : List ℕ} {n : ℕ} {inside : Inside} {inner twin : Inner} wher
   -- IS part, where the part does not begin with NOT
   pub is_part_reads : Nested text n inside inner twin → Reads (sort_of text) (Token × Part) (IsIsPart text inside) (IsIsPart text inside) (λ v. one v.0 ++ part_tokens v.1) n
       (is_part (sort_of text) inner) (read_is_part (sort_of text) twin)
-  unfolding read_is_part
+  unfolding read_is_part read_free_part
   is_part_reads nested =
       seq_reads (leaf_before_reads (word_fits text K.Is))
       (without_reads (words (K.Not ∷ [])) (part_reads nested) (no_words_fit text (K.Not ∷ [])) refl) refl

@@ -1,5 +1,5 @@
 -- The laws of what is read as literals, actions and operators between parts.
-use Rattle.std.proofs.Common.{IfSome, List, None, Option, Some, inl, inr, not, refl, ℕ}
+use Rattle.std.proofs.Common.{IfSome, List, None, Option, Some, [], inl, inr, not, refl, ℕ, ◌∷◌}
 use Rattle.sql_token.specs.Spelled.{maybe}
 use Rattle.sql_expr.specs.Leaf.{AreFixed}
 use Rattle.sql_expr.specs.Rules.{IsAction, IsInfix, IsLiteral}
@@ -9,7 +9,7 @@ use Rattle.sql_expr.specs.declared.operators.Action.{Action}
 use Rattle.sql_expr.specs.declared.operators.Infix.{Infix}
 use Rattle.sql_expr.specs.declared.operators.Literal.{Literal}
 use Rattle.sql_reader.proofs.Choices.{choice_reads, opt_reads}
-use Rattle.sql_reader.proofs.Forms.{begun_reads, lead_reads, leaf_before_reads, ruled, variant_reads}
+use Rattle.sql_reader.proofs.Forms.{begun_reads, lead_reads, leaf_before_reads, ruled, variant_reads, widened_reads}
 use Rattle.sql_reader.proofs.Laws.{Reads, leaf_reads}
 use Rattle.sql_reader.proofs.Leaves.{blob_fits, number_fits, str_fits, word_fits, words_fit}
 use Rattle.sql_reader.specs.Looks.{word}
@@ -17,7 +17,7 @@ use Rattle.sql_reader.specs.Sorts.{sort_of}
 use Rattle.query_parse.proofs.LeafLaws.{infix_sign_fits}
 use Rattle.query_parse.proofs.ListLaws.{maybe_not_reads, pair_reads}
 use Rattle.query_parse.specs.Lists.{pair}
-use Rattle.query_parse.specs.Operators.{action, comparing_words, distinct_from, literal, operator, read_action, read_distinct_from, read_literal, read_operator}
+use Rattle.query_parse.specs.Operators.{action, comparing_words, distinct_from, literal, operator, read_action, read_distinct_from, read_is_distinct, read_is_not, read_literal, read_operator, read_word_literal}
 use Rattle.sql_expr.specs.declared.operators.Action.TheVariants as Action'
 use Rattle.sql_expr.specs.declared.operators.Infix.TheVariants as Infix'
 use Rattle.sql_token.specs.declared.keyword.Keyword.TheVariants as K
@@ -35,7 +35,7 @@ module _ (text : List ℕ) {n : ℕ} where
   -- number | string | blob | NULL | CURRENT_DATE | CURRENT_TIME | CURRENT_TIMESTAMP
   pub literal_reads : Reads (sort_of text) Literal (IsLiteral text) (IsLiteral text) literal_tokens n
       (literal (sort_of text)) (read_literal (sort_of text))
-  unfolding read_literal
+  unfolding read_literal read_word_literal
   literal_reads =
       ruled
       (choice_reads (variant_reads (leaf_reads (number_fits text)) (λ t. refl) (λ t h. h))
@@ -83,15 +83,17 @@ module _ (text : List ℕ) {n : ℕ} where
   -- any operator but a bare IS
   pub operator_reads : Reads (sort_of text) Infix (IsOtherInfix text) (IsOtherInfix text) infix_tokens n
       (operator (sort_of text)) (read_operator (sort_of text))
-  unfolding read_operator
+  unfolding read_operator read_is_not read_is_distinct
   operator_reads =
       ruled
       (choice_reads
       (variant_reads (lead_reads (word_fits text K.Is) (begun_reads (word_fits text K.Not) distinct_from_reads)) (λ v. refl)
       (λ v h. ((h.0, h.1.0, h.1.1), tt)))
       (choice_reads
+      (widened_reads {starts = (word K.Is ∷ word K.Distinct ∷ []) ∷ []} {goes_on = []}
       (variant_reads (lead_reads (word_fits text K.Is) (pair_reads (word_fits text K.Distinct) (word_fits text K.From))) (λ v. refl)
       (λ v h. ((h.0, tt, h.1), tt)))
+      refl refl)
       (choice_reads (variant_reads (leaf_reads (word_fits text K.And)) (λ t. refl) (λ t h. (h, tt)))
       (choice_reads (variant_reads (leaf_reads (word_fits text K.Or)) (λ t. refl) (λ t h. (h, tt)))
       (choice_reads (variant_reads (leaf_reads (word_fits text K.Escape)) (λ t. refl) (λ t h. (h, tt)))

@@ -45,7 +45,7 @@ use Rattle.query_parse.proofs.OperandLaws.{query_reads}
 use Rattle.query_parse.proofs.WindowLaws.{exprs_reads, named_window_reads, opt_after_reads, opt_by_reads, opt_order_reads}
 use Rattle.query_parse.specs.Exprs.{Inner}
 use Rattle.query_parse.specs.Opened.{OpenCompoundArm, OpenSelect}
-use Rattle.query_parse.specs.Selects.{arm, compound, compound_arm, compound_arms, cte, ctes, limit, materialized, named_windows, next_cte, next_named_window, next_result_item, next_values_row, open_select, open_select_arm, opt_from, opt_limit, opt_materialized, opt_windows, opt_with, read_arm, read_compound, read_compound_arm, read_compound_arms, read_cte, read_ctes, read_limit, read_materialized, read_more_ctes, read_more_named_windows, read_more_result_items, read_more_values_rows, read_named_windows, read_next_cte, read_next_named_window, read_next_result_item, read_next_values_row, read_opt_from, read_opt_limit, read_opt_materialized, read_opt_windows, read_opt_with, read_result_item, read_result_items, read_second_limit, read_select_arm, read_select_level, read_values_row, read_values_rows, read_with, result_item, result_items, second_limit, select_arm, select_level, values_row, values_rows, with}
+use Rattle.query_parse.specs.Selects.{arm, compound, compound_arm, compound_arms, cte, ctes, limit, materialized, named_windows, next_cte, next_named_window, next_result_item, next_values_row, open_select, open_select_arm, opt_from, opt_limit, opt_materialized, opt_windows, opt_with, read_arm, read_compound, read_compound_arm, read_compound_arms, read_cte, read_ctes, read_limit, read_materialized, read_more_ctes, read_more_named_windows, read_more_result_items, read_more_values_rows, read_named_windows, read_next_cte, read_next_named_window, read_next_result_item, read_next_values_row, read_opt_from, read_opt_limit, read_opt_materialized, read_opt_windows, read_opt_with, read_plain_ctes, read_result_item, read_result_items, read_second_limit, read_select_arm, read_select_level, read_values_row, read_values_rows, read_with, read_with_recursive, result_item, result_items, second_limit, select_arm, select_level, values_row, values_rows, with}
 use Rattle.sql_expr.specs.declared.select.Arm.TheVariants as Arm'
 use Rattle.sql_expr.specs.declared.select.Compound.TheVariants as Compound'
 use Rattle.sql_token.specs.declared.keyword.Keyword.TheVariants as K
@@ -171,7 +171,7 @@ module _ {text : List ℕ} {n : ℕ} {inside : Inside} {inner twin : Inner} wher
   -- WITH RECURSIVE ctes | WITH ctes, where the first name is no RECURSIVE
   pub with_reads : Nested text n inside inner twin → Reads (sort_of text) (With Select) (IsWith text inside) (IsWith text inside) (with_tokens select_tokens) n
       (with (sort_of text) inner) (read_with (sort_of text) twin)
-  unfolding read_with
+  unfolding read_with read_with_recursive read_plain_ctes
   with_reads nested =
       ruled
       (choice_reads

@@ -1,15 +1,15 @@
 -- The laws of what is read behind FROM, and one level of it.
-use Rattle.std.proofs.Common.{IfSome, List, Option, [], ap, inl, inr, refl, subst, sym, ℕ, ◌++◌, ◌∙◌, ◌∷◌, ◌≡◌, ◌⊎◌}
+use Rattle.std.proofs.Common.{IfSome, List, Option, [], ap, inl, inr, refl, subst, sym, ℕ, ◌∙◌, ◌∷◌, ◌≡◌, ◌⊎◌}
 use Rattle.std.specs.List.{AllByRecursion}
 use Rattle.sql_token.specs.Fixed.{IsName}
-use Rattle.sql_token.specs.Spelled.{flat, maybe, one}
+use Rattle.sql_token.specs.Spelled.{flat, maybe}
 use Rattle.sql_token.specs.declared.token.Token.{Token}
 use Rattle.sql_expr.proofs.Opened.{made_joined_source, made_sources, table_source_tokens-Derived, table_source_tokens-Sources, table_source_tokens-Table, table_source_tokens-TableFunction}
 use Rattle.sql_expr.specs.Leaf.{BeginsWithout}
 use Rattle.sql_expr.specs.Levels.{OpenTableSource}
 use Rattle.sql_expr.specs.Rules.{AreArguments, Inside, IsAlias, IsInParens, IsIndexing, IsJoin, IsJoinConstraint, IsJoinKind, IsJoinedSource, IsObject, IsSources, IsTableSource}
-use Rattle.sql_expr.specs.Tokens.{alias_tokens, commas_tokens, in_parens_tokens, indexing_tokens, join_constraint_tokens, join_kind_tokens, join_tokens, object_tokens}
-use Rattle.sql_expr.specs.Tree.{expr_tokens, joined_source_tokens, select_tokens, sources_tokens, table_source_tokens}
+use Rattle.sql_expr.specs.Tokens.{in_parens_tokens, indexing_tokens, join_constraint_tokens, join_kind_tokens, join_tokens}
+use Rattle.sql_expr.specs.Tree.{expr_tokens, joined_source_tokens, sources_tokens, table_source_tokens}
 use Rattle.sql_expr.specs.declared.expr.Expr.{Expr}
 use Rattle.sql_expr.specs.declared.expr.InSet.TheOpen.{TableSource-F}
 use Rattle.sql_expr.specs.declared.lists.Commas.{Commas}
@@ -39,8 +39,8 @@ use Rattle.query_parse.proofs.OperandLaws.{arguments_reads, query_reads}
 use Rattle.query_parse.specs.Exprs.{Inner, select}
 use Rattle.query_parse.specs.Names.{alias, object}
 use Rattle.query_parse.specs.Opened.{OpenJoinedSource, OpenSources}
-use Rattle.query_parse.specs.Operands.{arguments}
-use Rattle.query_parse.specs.Sources.{derived, indexing, join, join_constraint, join_kind, joined_source, joined_sources, opt_indexing, opt_join_constraint, opt_join_kind, read_derived, read_indexing, read_join, read_join_constraint, read_join_kind, read_joined_source, read_joined_sources, read_opt_indexing, read_opt_join_constraint, read_opt_join_kind, read_sources_level, read_sources_parens, read_table, read_table_function, read_table_source, sides, sources_level, sources_parens, sources_parens_starts, table, table_function, table_source}
+use Rattle.query_parse.specs.Operands.{arguments, parens_starts}
+use Rattle.query_parse.specs.Sources.{indexing, join, join_constraint, join_kind, joined_source, joined_sources, opt_indexing, opt_join_constraint, opt_join_kind, read_derived, read_indexing, read_inner_sources, read_join, read_join_constraint, read_join_kind, read_joined_source, read_joined_sources, read_opt_indexing, read_opt_join_constraint, read_opt_join_kind, read_sources_level, read_sources_parens, read_table, read_table_function, read_table_source, sides, sources_level, sources_parens, table_source}
 use Rattle.sql_expr.specs.declared.source.Indexing.TheVariants as Indexing'
 use Rattle.sql_expr.specs.declared.source.Join.TheVariants as Join'
 use Rattle.sql_expr.specs.declared.source.JoinConstraint.TheVariants as JoinConstraint'
@@ -157,12 +157,6 @@ module _ (text : List ℕ) {n : ℕ} where
         | Join'.Join natural kind word ↦ λ h. inr (((natural, kind), word), refl, ((h.0, h.1), h.2))
       ])
 
-  -- object [[AS] alias] [INDEXED BY name | NOT INDEXED]
-  pub table_reads : Reads (sort_of text) ((Object × Option Alias) × Option Indexing) (IsTable text) (IsTable text) (λ v. (object_tokens v.0.0 ++ maybe alias_tokens v.0.1) ++ maybe indexing_tokens v.1) n
-      (table (sort_of text)) (read_table (sort_of text))
-  unfolding read_table
-  table_reads = seq_reads (seq_reads (object_reads text) (opt_alias_reads text) refl) opt_indexing_reads refl
-
 module _ {text : List ℕ} {n : ℕ} {inside : Inside} {inner twin : Inner} where
   -- ON expr | USING "(" names ")"
   pub join_constraint_reads : Nested text n inside inner twin → Reads (sort_of text) (JoinConstraint Expr) (IsJoinConstraint text inside) (IsJoinConstraint text inside) (join_constraint_tokens expr_tokens) n
@@ -188,38 +182,26 @@ module _ {text : List ℕ} {n : ℕ} {inside : Inside} {inner twin : Inner} wher
   -- "(" sources ")", where a select would begin with WITH
   pub sources_parens_reads : Nested text n inside inner twin → Reads (sort_of text) (InParens Sources) (IsInParens text (IsSourcesInside text inside)) (IsInParens text (IsSourcesInside text inside)) (in_parens_tokens sources_tokens) n
       (sources_parens (sort_of text) inner) (read_sources_parens (sort_of text) twin)
-  unfolding read_sources_parens
+  unfolding read_sources_parens read_inner_sources
   sources_parens_reads nested =
       in_parens_reads (without_reads (words (K.With ∷ [])) nested.sources (no_words_fit text (K.With ∷ [])) refl) refl
-
-  -- name "(" [exprs] ")" [[AS] alias]
-  pub table_function_reads : Nested text n inside inner twin → Reads (sort_of text) ((Token × InParens (Option (Commas Expr))) × Option Alias) (IsFunctionSource text inside) (IsFunctionSource text inside) (λ v. (one v.0.0 ++ in_parens_tokens (maybe (commas_tokens expr_tokens)) v.0.1) ++ maybe alias_tokens v.1) n
-      (table_function (sort_of text) inner) (read_table_function (sort_of text) twin)
-  unfolding read_table_function
-  table_function_reads nested = seq_reads (lead_reads (name_fits text) (arguments_reads nested)) (opt_alias_reads text) refl
-
-  -- "(" select ")" [[AS] alias]
-  pub derived_reads : Nested text n inside inner twin → Reads (sort_of text) (InParens Select × Option Alias) (IsDerived text inside) (IsDerived text inside) (λ v. in_parens_tokens select_tokens v.0 ++ maybe alias_tokens v.1) n
-      (derived (sort_of text) inner) (read_derived (sort_of text) twin)
-  unfolding read_derived
-  derived_reads nested = seq_reads (query_reads nested) (opt_alias_reads text) refl
 
   -- "(" select ")" [[AS] alias] | "(" sources ")" | name "(" [exprs] ")" [[AS] alias] | object ..
   pub table_source_reads : Nested text n inside inner twin → Reads (sort_of text) TableSource (λ x. IsTableSource text inside (out-TableSource x)) (λ x. IsTableSource text inside (out-TableSource x)) table_source_tokens n
       (table_source (sort_of text) inner) (read_table_source (sort_of text) twin)
-  unfolding read_table_source
+  unfolding read_table_source read_derived read_table_function read_table
   table_source_reads nested =
       ruled
       (choice_reads
-      (variant_reads (derived_reads nested) (λ v. table_source_tokens-Derived v.0 v.1)
+      (variant_reads (seq_reads (query_reads nested) (opt_alias_reads text) refl) (λ v. table_source_tokens-Derived v.0 v.1)
       (λ v h. subst (IsTableSource text inside) (table_source_out (TableSource'.Derived v.0 v.1) (TableSource-F.Derived v.0 v.1) (TableSource'.rolls-Derived v.0 v.1)) (h.0, h.1)))
       (choice_reads
-      (variant_reads (widened_reads {starts = sources_parens_starts} {goes_on = []} (sources_parens_reads nested) refl refl) (λ v. table_source_tokens-Sources v)
+      (variant_reads (widened_reads {starts = parens_starts} {goes_on = []} (sources_parens_reads nested) refl refl) (λ v. table_source_tokens-Sources v)
       (λ v h. subst (IsTableSource text inside) (table_source_out (TableSource'.Sources v) (TableSource-F.Sources v) (TableSource'.rolls-Sources v)) h))
       (choice_reads
-      (variant_reads (table_function_reads nested) (λ v. table_source_tokens-TableFunction v.0.0 v.0.1 v.1)
+      (variant_reads (seq_reads (lead_reads (name_fits text) (arguments_reads nested)) (opt_alias_reads text) refl) (λ v. table_source_tokens-TableFunction v.0.0 v.0.1 v.1)
       (λ v h. subst (IsTableSource text inside) (table_source_out (TableSource'.TableFunction v.0.0 v.0.1 v.1) (TableSource-F.TableFunction v.0.0 v.0.1 v.1) (TableSource'.rolls-TableFunction v.0.0 v.0.1 v.1)) (h.0.0, h.0.1, h.1)))
-      (variant_reads (table_reads text) (λ v. table_source_tokens-Table v.0.0 v.0.1 v.1)
+      (variant_reads (seq_reads (seq_reads (object_reads text) (opt_alias_reads text) refl) (opt_indexing_reads text) refl) (λ v. table_source_tokens-Table v.0.0 v.0.1 v.1)
       (λ v h. subst (IsTableSource text inside) (table_source_out (TableSource'.Table v.0.0 v.0.1 v.1) (TableSource-F.Table v.0.0 v.0.1 v.1) (TableSource'.rolls-Table v.0.0 v.0.1 v.1)) (h.0.0, h.0.1, h.1)))
       refl refl refl) refl refl refl) refl refl refl)
       (λ x h. h)

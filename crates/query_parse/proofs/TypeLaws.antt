@@ -16,20 +16,21 @@ use Rattle.sql_expr.specs.declared.names.ColumnType.{ColumnType}
 use Rattle.sql_expr.specs.declared.names.Signed.{Signed}
 use Rattle.sql_expr.specs.declared.names.TypeSize.{TypeSize}
 use Rattle.sql_reader.proofs.Choices.{choice_reads, opt_reads}
-use Rattle.sql_reader.proofs.Forms.{formed_reads, leaf_before_reads, ruled}
+use Rattle.sql_reader.proofs.Forms.{formed_reads, leaf_before_reads, ruled, widened_reads}
 use Rattle.sql_reader.proofs.Laws.{Fits, Reads, leaf_reads, seq_reads}
 use Rattle.sql_reader.proofs.Leaves.{both_fits, either_fits, none_of_fits, number_fits, sign_fits, word_fits}
 use Rattle.sql_reader.proofs.Looks.{clear-apart, clear-left, clear-right, looks-left, looks-right}
 use Rattle.sql_reader.proofs.Outcomes.{made_is, made_parts, rest_at_most, same_outcome, then_is, then_parts}
 use Rattle.sql_reader.proofs.TokenSorts.{fixed_sort}
-use Rattle.sql_reader.specs.Looks.{Look, Set, apart, both, looks, name, next_sort, none_of, word}
+use Rattle.sql_reader.proofs.Turns.{TakesToken}
+use Rattle.sql_reader.specs.Looks.{Look, apart, looks, name, next_sort, none_of, sign, word}
 use Rattle.sql_reader.specs.Reading.{Read, and_then, made_of, read_leaf, read_leaf_before, read_many, read_seq, read_turns, seq}
 use Rattle.sql_reader.specs.Sorts.{sort_of}
-use Rattle.sql_reader.specs.declared.sort.Mark.TheVariants.{Minus, Plus}
+use Rattle.sql_reader.specs.declared.sort.Mark.TheVariants.{Minus, Opening, Plus}
 use Rattle.sql_reader.specs.declared.sort.Sort.{Sort}
 use Rattle.query_parse.proofs.LeafLaws.{type_name_fits}
 use Rattle.query_parse.proofs.ListLaws.{in_parens_reads, next_item_reads, opt_leaf_reads}
-use Rattle.query_parse.specs.Types.{column_type, more_type_names, next_type_name, opt_size, opt_type, read_column_type, read_more_type_names, read_next_type_name, read_opt_size, read_opt_type, read_second_size, read_signed, read_type_size, second_size, signed, type_name, type_size}
+use Rattle.query_parse.specs.Types.{column_type, more_type_names, next_type_name, opt_size, opt_type, other_name, read_column_type, read_more_type_names, read_next_type_name, read_opt_size, read_opt_type, read_second_size, read_signed, read_type_size, second_size, signed, type_name, type_size}
 use Rattle.sql_token.specs.declared.keyword.Keyword.TheVariants as K
 
 module _ (text : List ℕ) {n : ℕ} where
@@ -61,12 +62,10 @@ module _ (text : List ℕ) {n : ℕ} where
   pub opt_size_reads : Reads (sort_of text) (Option (InParens TypeSize)) (λ x. IfSome x (IsInParens text (IsTypeSize text))) (λ x. IfSome x (IsInParens text (IsTypeSize text))) (maybe (in_parens_tokens type_size_tokens)) n
       (opt_size (sort_of text)) (read_opt_size (sort_of text))
   unfolding read_opt_size
-  opt_size_reads = opt_reads (in_parens_reads type_size_reads refl) refl
+  opt_size_reads =
+      opt_reads (widened_reads {starts = (sign Opening ∷ []) ∷ []} {goes_on = []} (in_parens_reads type_size_reads refl) refl refl) refl
 
 -- ---- names in a type
-
-abbrev other_name : Set
-other_name = both type_name (none_of (word K.Generated))
 
 module _ (text : List ℕ) where
   abbrev sort : Token → Sort
@@ -296,3 +295,7 @@ module _ (text : List ℕ) {n : ℕ} where
       (opt_type (sort_of text)) (read_opt_type (sort_of text))
   unfolding read_opt_type
   opt_type_reads = opt_reads column_type_reads refl
+
+-- a name in a type takes a token
+pub next_type_name_takes : (text : List ℕ) → TakesToken (read_next_type_name (sort_of text))
+next_type_name_takes text = let laws = next_type_name_reads text {n = 0} in laws.size refl

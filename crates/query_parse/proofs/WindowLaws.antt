@@ -34,7 +34,7 @@ use Rattle.query_parse.proofs.ListLaws.{after_reads, by_reads, commas_reads, nex
 use Rattle.query_parse.specs.Exprs.{Inner}
 use Rattle.query_parse.specs.Lists.{pair}
 use Rattle.query_parse.specs.Operands.{row}
-use Rattle.query_parse.specs.Windows.{bound, excluded, exprs, frame, frame_extent, frame_units, named_window, next_expr, next_term, nulls, opt_after, opt_by, opt_exclude, opt_frame, opt_order, read_bound, read_excluded, read_exprs, read_frame, read_frame_extent, read_more_exprs, read_more_terms, read_named_window, read_next_expr, read_next_term, read_nulls, read_opt_after, read_opt_by, read_opt_exclude, read_opt_frame, read_opt_order, read_term, read_terms, read_window, term, terms, window}
+use Rattle.query_parse.specs.Windows.{bound, excluded, exprs, frame, frame_extent, frame_units, named_window, next_expr, next_term, nulls, opt_after, opt_by, opt_exclude, opt_frame, opt_order, read_bound, read_bound_expr, read_excluded, read_exprs, read_frame, read_frame_extent, read_more_exprs, read_more_terms, read_named_window, read_next_expr, read_next_term, read_nulls, read_opt_after, read_opt_by, read_opt_exclude, read_opt_frame, read_opt_order, read_plain_bound, read_term, read_terms, read_window, term, terms, window}
 use Rattle.sql_expr.specs.declared.window.Bound.TheVariants as Bound'
 use Rattle.sql_expr.specs.declared.window.Excluded.TheVariants as Excluded'
 use Rattle.sql_expr.specs.declared.window.FrameExtent.TheVariants as FrameExtent'
@@ -131,7 +131,7 @@ module _ {text : List ℕ} {n : ℕ} {inside : Inside} {inner twin : Inner} wher
   -- UNBOUNDED (PRECEDING|FOLLOWING) | CURRENT ROW | expr (PRECEDING|FOLLOWING)
   pub bound_reads : Nested text n inside inner twin → Reads (sort_of text) (Bound Expr) (IsBound text inside) (IsBound text inside) (bound_tokens expr_tokens) n
       (bound (sort_of text) inner) (read_bound (sort_of text) twin)
-  unfolding read_bound
+  unfolding read_bound read_plain_bound read_bound_expr
   bound_reads nested =
       let way = leaf_reads (words_fit text (K.Preceding ∷ K.Following ∷ [])) in
       let barred = K.Unbounded ∷ K.Current ∷ [] in

@@ -1,5 +1,5 @@
 -- What is read as calls of functions, CASE, CAST and RAISE.
-use Rattle.std.specs.Prelude.{List, Option}
+use Rattle.std.specs.Prelude.{List, Option, [], ◌∷◌}
 use Rattle.sql_token.specs.declared.token.Token.{Token}
 use Rattle.sql_expr.specs.declared.call.Call.{Call}
 use Rattle.sql_expr.specs.declared.call.CallArguments.{CallArguments}
@@ -12,11 +12,11 @@ use Rattle.sql_expr.specs.declared.call.When.{When}
 use Rattle.sql_expr.specs.declared.expr.Expr.{Expr}
 use Rattle.sql_expr.specs.declared.lists.After.{After}
 use Rattle.sql_expr.specs.declared.lists.InParens.{InParens}
-use Rattle.sql_reader.specs.Looks.{name, sign, word}
+use Rattle.sql_reader.specs.Looks.{Look, name, sign, word}
 use Rattle.sql_reader.specs.Reading.{Read, Reading, begun, choice, formed, lead, leaf, many, opt, sealed, seq}
 use Rattle.sql_reader.specs.declared.sort.Mark.TheVariants.{Closing, Opening, Star}
 use Rattle.sql_reader.specs.declared.sort.Sort.{Sort}
-use Rattle.query_parse.specs.Exprs.{Inner, expr, operand_name}
+use Rattle.query_parse.specs.Exprs.{Inner, expr, expr_starts, operand_name}
 use Rattle.query_parse.specs.Lists.{after, in_parens, opt_leaf}
 use Rattle.query_parse.specs.Operators.{action}
 use Rattle.query_parse.specs.Types.{opt_type}
@@ -38,6 +38,10 @@ read_call_arguments sort inner = (call_arguments_form sort inner).read
 
 abbrev pub call_arguments : (sort : Token → Sort) → Inner → Reading sort (CallArguments Expr)
 call_arguments sort inner = sealed (call_arguments_form sort inner) (read_call_arguments sort inner)
+
+-- how the arguments of a call begin
+abbrev pub arguments_starts : Look
+arguments_starts = (sign Star ∷ []) ∷ (word K.Distinct ∷ []) ∷ expr_starts
 
 -- [arguments]
 abbrev opt_arguments_form : (sort : Token → Sort) → Inner → Reading sort (Option (CallArguments Expr))
@@ -90,6 +94,10 @@ read_over sort inner = (over_form sort inner).read
 
 abbrev pub over : (sort : Token → Sort) → Inner → Reading sort (Over Expr)
 over sort inner = sealed (over_form sort inner) (read_over sort inner)
+
+-- how OVER and what stands behind it begin
+abbrev pub over_starts : Look
+over_starts = (word K.Over ∷ name ∷ []) ∷ (word K.Over ∷ sign Opening ∷ []) ∷ []
 
 -- [OVER (name | window)]
 abbrev opt_over_form : (sort : Token → Sort) → Inner → Reading sort (Option (Over Expr))

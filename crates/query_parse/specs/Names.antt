@@ -125,13 +125,21 @@ read_third_name sort = (third_name_form sort).read
 abbrev pub third_name : (sort : Token → Sort) → Reading sort (Option TokenPair)
 third_name sort = sealed (third_name_form sort) (read_third_name sort)
 
+-- name "." name | name "." name "." name
+abbrev long_use_form : (sort : Token → Sort) → Reading sort ColumnUse
+long_use_form sort =
+    formed (λ v. qualified_use v.0.0 v.0.1.0 v.0.1.1 v.1)
+    (seq (lead operand_name (lead (sign Dot) (leaf name))) (third_name sort))
+
+unfoldable pub read_long_use : (Token → Sort) → Read ColumnUse
+read_long_use sort = (long_use_form sort).read
+
+abbrev pub long_use : (sort : Token → Sort) → Reading sort ColumnUse
+long_use sort = sealed (long_use_form sort) (read_long_use sort)
+
 -- name | name "." name | name "." name "." name
 abbrev column_use_form : (sort : Token → Sort) → Reading sort ColumnUse
-column_use_form sort =
-    choice
-    (formed (λ t. ColumnUse'.One t) (leaf_before column_name dot_or_opening))
-    (formed (λ v. qualified_use v.0.0 v.0.1.0 v.0.1.1 v.1)
-    (seq (lead operand_name (lead (sign Dot) (leaf name))) (third_name sort)))
+column_use_form sort = choice (formed (λ t. ColumnUse'.One t) (leaf_before column_name dot_or_opening)) (long_use sort)
 
 unfoldable pub read_column_use : (Token → Sort) → Read ColumnUse
 read_column_use sort = (column_use_form sort).read

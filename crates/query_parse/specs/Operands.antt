@@ -11,12 +11,13 @@ use Rattle.sql_expr.specs.declared.lists.Commas.{Commas}
 use Rattle.sql_expr.specs.declared.lists.InParens.{InParens}
 use Rattle.sql_expr.specs.declared.operators.Infix.{Infix}
 use Rattle.sql_expr.specs.declared.select.Select.{Select}
-use Rattle.sql_reader.specs.Looks.{Look, Set, either, name, sign, word, words}
+use Rattle.sql_reader.specs.Looks.{Look, Set, either, name, none_of, number, only, sign, word, words}
 use Rattle.sql_reader.specs.Reading.{Read, Reading, begun, choice, formed, lead, leaf, leaf_before, many, opt, sealed, seq, widened, without}
-use Rattle.sql_reader.specs.declared.sort.Mark.TheVariants.{Closing, Minus, Opening, Plus, Tilde}
+use Rattle.sql_reader.specs.declared.sort.Mark.TheVariants.{Closing, Dot, Minus, Opening, Plus, Tilde}
 use Rattle.sql_reader.specs.declared.sort.Sort.{Sort}
+use Rattle.sql_reader.specs.declared.sort.Sort.TheVariants.{Blob, Str}
 use Rattle.query_parse.specs.Calls.{call, case, cast, raise}
-use Rattle.query_parse.specs.Exprs.{Inner, dot_or_opening, expr_goes_on, expr_starts, select}
+use Rattle.query_parse.specs.Exprs.{Inner, column_name, dot_or_opening, expr_goes_on, expr_starts, operand_name, select, select_words}
 use Rattle.query_parse.specs.Lists.{in_parens, maybe_not, opt_leaf}
 use Rattle.query_parse.specs.Names.{column_use, object}
 use Rattle.query_parse.specs.Operators.{comparing_words, infix_sign, literal, operator}
@@ -101,11 +102,15 @@ read_query sort inner = (query_form sort inner).read
 abbrev pub query : (sort : Token → Sort) → Inner → Reading sort (InParens Select)
 query sort inner = sealed (query_form sort inner) (read_query sort inner)
 
+-- how parentheses begin in which no select stands
+abbrev pub parens_starts : Look
+parens_starts = (sign Opening ∷ none_of (words select_words) ∷ []) ∷ []
+
 -- "(" select ")" | "(" [exprs] ")" | name "(" [exprs] ")" | object
 abbrev in_set_form : (sort : Token → Sort) → Inner → Reading sort InSet
 in_set_form sort inner =
     choice (formed (λ v. InSet'.Query v) (query sort inner))
-    (choice (formed (λ v. InSet'.List v) (list_parens sort inner))
+    (choice (formed (λ v. InSet'.List v) (widened parens_starts [] (list_parens sort inner)))
     (choice (formed (λ v. InSet'.Function v.0 v.1) (lead name (arguments sort inner)))
     (formed (λ v. InSet'.Object v) (object sort))))
 
@@ -125,17 +130,40 @@ read_subquery sort inner = (subquery_form sort inner).read
 abbrev pub subquery : (sort : Token → Sort) → Inner → Reading sort (Option Token × InParens Select)
 subquery sort inner = sealed (subquery_form sort inner) (read_subquery sort inner)
 
--- CASE .. | CAST .. | RAISE .. | [EXISTS] "(" select ")" | call | literal | column-use | "(" exprs ")"
+-- "(" exprs ")" | CASE .. | CAST .. | RAISE ..
+abbrev other_operand_form : (sort : Token → Sort) → Inner → Reading sort Operand
+other_operand_form sort inner =
+    choice (formed (λ v. Operand'.Exprs v) (widened parens_starts [] (row_parens sort inner)))
+    (choice (formed (λ v. Operand'.Case v) (case sort inner))
+    (choice (formed (λ v. Operand'.Cast v) (cast sort inner)) (formed (λ v. Operand'.Raise v) (raise sort inner))))
+
+unfoldable pub read_other_operand : (Token → Sort) → Inner → Read Operand
+read_other_operand sort inner = (other_operand_form sort inner).read
+
+abbrev pub other_operand : (sort : Token → Sort) → Inner → Reading sort Operand
+other_operand sort inner = sealed (other_operand_form sort inner) (read_other_operand sort inner)
+
+-- how a subquery begins
+abbrev pub subquery_starts : Look
+subquery_starts = (word K.Exists ∷ []) ∷ (sign Opening ∷ words select_words ∷ []) ∷ []
+
+-- how a literal begins
+abbrev pub literal_starts : Look
+literal_starts =
+    (number ∷ []) ∷ (only Str ∷ none_of dot_or_opening ∷ []) ∷ (only Blob ∷ []) ∷ (word K.Null ∷ []) ∷ (word K.CurrentDate ∷ [])
+    ∷ (word K.CurrentTime ∷ []) ∷ (word K.CurrentTimestamp ∷ []) ∷ []
+
+-- how a use of a column begins
+abbrev pub column_starts : Look
+column_starts = (column_name ∷ none_of dot_or_opening ∷ []) ∷ (operand_name ∷ sign Dot ∷ name ∷ []) ∷ []
+
+-- [EXISTS] "(" select ")" | call | literal | column-use | "(" exprs ")" | CASE .. | CAST .. | RAISE ..
 abbrev operand_form : (sort : Token → Sort) → Inner → Reading sort Operand
 operand_form sort inner =
-    choice (formed (λ v. Operand'.Case v) (case sort inner))
-    (choice (formed (λ v. Operand'.Cast v) (cast sort inner))
-    (choice (formed (λ v. Operand'.Raise v) (raise sort inner))
-    (choice (formed (λ v. Operand'.Subquery v.0 v.1) (subquery sort inner))
+    choice (formed (λ v. Operand'.Subquery v.0 v.1) (subquery sort inner))
     (choice (formed (λ v. Operand'.Call v) (call sort inner))
     (choice (formed (λ v. Operand'.Literal v) (literal sort))
-    (choice (formed (λ v. Operand'.Column v) (column_use sort))
-    (formed (λ v. Operand'.Exprs v) (row_parens sort inner))))))))
+    (choice (formed (λ v. Operand'.Column v) (column_use sort)) (other_operand sort inner))))
 
 unfoldable pub read_operand : (Token → Sort) → Inner → Read Operand
 read_operand sort inner = (operand_form sort inner).read
@@ -157,6 +185,12 @@ read_postfix sort inner = (postfix_form sort inner).read
 
 abbrev pub postfix : (sort : Token → Sort) → Inner → Reading sort Postfix
 postfix sort inner = sealed (postfix_form sort inner) (read_postfix sort inner)
+
+-- how a postfix begins
+abbrev pub postfix_starts : Look
+postfix_starts =
+    (word K.Collate ∷ []) ∷ (word K.IsNull ∷ []) ∷ (word K.NotNull ∷ []) ∷ (word K.Not ∷ word K.Null ∷ [])
+    ∷ (word K.Not ∷ word K.In ∷ []) ∷ (word K.In ∷ []) ∷ []
 
 -- "-" | "+" | "~" | NOT
 abbrev pub prefix : Set
@@ -204,9 +238,19 @@ infix_part_of operator part = roll-InfixPart (record { operator = operator; part
 abbrev pub bare_is : {sort : Token → Sort} → Reading sort Token
 bare_is = leaf_before (word K.Is) (words (K.Not ∷ K.Distinct ∷ []))
 
+-- a part that does not begin with NOT
+abbrev free_part_form : (sort : Token → Sort) → Inner → Reading sort Part
+free_part_form sort inner = without (words (K.Not ∷ [])) (part sort inner)
+
+unfoldable pub read_free_part : (Token → Sort) → Inner → Read Part
+read_free_part sort inner = (free_part_form sort inner).read
+
+abbrev pub free_part : (sort : Token → Sort) → Inner → Reading sort Part
+free_part sort inner = sealed (free_part_form sort inner) (read_free_part sort inner)
+
 -- IS part, where the part does not begin with NOT
 abbrev is_part_form : (sort : Token → Sort) → Inner → Reading sort (Token × Part)
-is_part_form sort inner = seq bare_is (without (words (K.Not ∷ [])) (part sort inner))
+is_part_form sort inner = seq bare_is (free_part sort inner)
 
 unfoldable pub read_is_part : (Token → Sort) → Inner → Read (Token × Part)
 read_is_part sort inner = (is_part_form sort inner).read

@@ -21,7 +21,7 @@ use Rattle.sql_expr.specs.declared.select.With.{With}
 use Rattle.sql_expr.specs.declared.source.Sources.{Sources}
 use Rattle.sql_expr.specs.declared.window.NamedWindow.{NamedWindow}
 use Rattle.sql_expr.specs.declared.window.Term.{Term}
-use Rattle.sql_reader.specs.Looks.{either, name, sign, word, words}
+use Rattle.sql_reader.specs.Looks.{Look, Set, either, name, sign, word, words}
 use Rattle.sql_reader.specs.Reading.{Read, Reading, begun, choice, formed, lead, leaf, many, opt, sealed, seq, widened, without}
 use Rattle.sql_reader.specs.declared.sort.Mark.TheVariants.{Comma, Dot, Star}
 use Rattle.sql_reader.specs.declared.sort.Sort.{Sort}
@@ -45,6 +45,10 @@ read_materialized sort = (materialized_form sort).read
 
 abbrev pub materialized : (sort : Token → Sort) → Reading sort Materialized
 materialized sort = sealed (materialized_form sort) (read_materialized sort)
+
+-- how it begins
+abbrev pub materialized_starts : Look
+materialized_starts = (word K.Not ∷ word K.Materialized ∷ []) ∷ (word K.Materialized ∷ []) ∷ []
 
 -- [[NOT] MATERIALIZED]
 abbrev opt_materialized_form : (sort : Token → Sort) → Reading sort (Option Materialized)
@@ -98,12 +102,33 @@ read_ctes sort inner = (ctes_form sort inner).read
 abbrev pub ctes : (sort : Token → Sort) → Inner → Reading sort (Commas (Cte Select))
 ctes sort inner = sealed (ctes_form sort inner) (read_ctes sort inner)
 
--- WITH RECURSIVE ctes | WITH ctes, where the first name is no RECURSIVE
+-- WITH RECURSIVE ctes
+abbrev with_recursive_form : (sort : Token → Sort) → Inner → Reading sort (With Select)
+with_recursive_form sort inner =
+    formed (λ v. record { with_word = v.0; recursive = Some v.1.0; ctes = v.1.1 })
+    (lead (word K.With) (begun (word K.Recursive) (ctes sort inner)))
+
+unfoldable pub read_with_recursive : (Token → Sort) → Inner → Read (With Select)
+read_with_recursive sort inner = (with_recursive_form sort inner).read
+
+abbrev pub with_recursive : (sort : Token → Sort) → Inner → Reading sort (With Select)
+with_recursive sort inner = sealed (with_recursive_form sort inner) (read_with_recursive sort inner)
+
+-- ctes, of which the first name is no RECURSIVE
+abbrev plain_ctes_form : (sort : Token → Sort) → Inner → Reading sort (Commas (Cte Select))
+plain_ctes_form sort inner = without (words (K.Recursive ∷ [])) (ctes sort inner)
+
+unfoldable pub read_plain_ctes : (Token → Sort) → Inner → Read (Commas (Cte Select))
+read_plain_ctes sort inner = (plain_ctes_form sort inner).read
+
+abbrev pub plain_ctes : (sort : Token → Sort) → Inner → Reading sort (Commas (Cte Select))
+plain_ctes sort inner = sealed (plain_ctes_form sort inner) (read_plain_ctes sort inner)
+
+-- WITH RECURSIVE ctes | WITH ctes
 abbrev with_form : (sort : Token → Sort) → Inner → Reading sort (With Select)
 with_form sort inner =
-    choice
-    (formed (λ v. record { with_word = v.0; recursive = Some v.1.0; ctes = v.1.1 }) (lead (word K.With) (begun (word K.Recursive) (ctes sort inner))))
-    (formed (λ v. record { with_word = v.0; recursive = None; ctes = v.1 }) (lead (word K.With) (without (words (K.Recursive ∷ [])) (ctes sort inner))))
+    choice (with_recursive sort inner)
+    (formed (λ v. record { with_word = v.0; recursive = None; ctes = v.1 }) (lead (word K.With) (plain_ctes sort inner)))
 
 unfoldable pub read_with : (Token → Sort) → Inner → Read (With Select)
 read_with sort inner = (with_form sort inner).read
@@ -133,9 +158,17 @@ read_compound sort = (compound_form sort).read
 abbrev pub compound : (sort : Token → Sort) → Reading sort Compound
 compound sort = sealed (compound_form sort) (read_compound sort)
 
+-- how a further arm begins
+abbrev pub compound_starts : Look
+compound_starts = (word K.Union ∷ []) ∷ (word K.Except ∷ []) ∷ (word K.Intersect ∷ []) ∷ []
+
+-- OFFSET | ","
+abbrev pub offset_or_comma : Set
+offset_or_comma = either (word K.Offset) (sign Comma)
+
 -- [(OFFSET | ",") expr]
 abbrev second_limit_form : (sort : Token → Sort) → Inner → Reading sort (Option (After Expr))
-second_limit_form sort inner = opt (formed (λ v. record { word = v.0; part = v.1 }) (begun (either (word K.Offset) (sign Comma)) (expr inner)))
+second_limit_form sort inner = opt (formed (λ v. record { word = v.0; part = v.1 }) (begun offset_or_comma (expr inner)))
 
 unfoldable pub read_second_limit : (Token → Sort) → Inner → Read (Option (After Expr))
 read_second_limit sort inner = (second_limit_form sort inner).read
@@ -164,6 +197,10 @@ read_opt_limit sort inner = (opt_limit_form sort inner).read
 
 abbrev pub opt_limit : (sort : Token → Sort) → Inner → Reading sort (Option (Limit Expr))
 opt_limit sort inner = sealed (opt_limit_form sort inner) (read_opt_limit sort inner)
+
+-- how all columns of one source are named
+abbrev pub all_of_starts : Look
+all_of_starts = (operand_name ∷ sign Dot ∷ sign Star ∷ []) ∷ []
 
 -- "*" | name "." "*" | expr [[AS] alias]
 abbrev result_item_form : (sort : Token → Sort) → Inner → Reading sort (ResultItem Expr)

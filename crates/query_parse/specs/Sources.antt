@@ -1,13 +1,9 @@
 -- What is read behind FROM, and one level of it.
-use Rattle.std.specs.Prelude.{List, Option, [], ◌∷◌}
+use Rattle.std.specs.Prelude.{List, Option, [], ◌++◌, ◌∷◌}
 use Rattle.sql_token.specs.declared.keyword.Keyword.{Keyword}
 use Rattle.sql_token.specs.declared.token.Token.{Token}
 use Rattle.sql_expr.specs.declared.expr.Expr.{Expr}
-use Rattle.sql_expr.specs.declared.lists.Commas.{Commas}
 use Rattle.sql_expr.specs.declared.lists.InParens.{InParens}
-use Rattle.sql_expr.specs.declared.names.Alias.{Alias}
-use Rattle.sql_expr.specs.declared.names.Object.{Object}
-use Rattle.sql_expr.specs.declared.select.Select.{Select}
 use Rattle.sql_expr.specs.declared.source.Indexing.{Indexing}
 use Rattle.sql_expr.specs.declared.source.Join.{Join}
 use Rattle.sql_expr.specs.declared.source.JoinConstraint.{JoinConstraint}
@@ -15,14 +11,14 @@ use Rattle.sql_expr.specs.declared.source.JoinKind.{JoinKind}
 use Rattle.sql_expr.specs.declared.source.JoinedSource.{JoinedSource, roll-JoinedSource}
 use Rattle.sql_expr.specs.declared.source.Sources.{Sources, roll-Sources}
 use Rattle.sql_expr.specs.declared.source.TableSource.{TableSource}
-use Rattle.sql_reader.specs.Looks.{Look, name, none_of, sign, word, words}
+use Rattle.sql_reader.specs.Looks.{Look, name, sign, word, words}
 use Rattle.sql_reader.specs.Reading.{Read, Reading, begun, choice, formed, lead, leaf, many, opt, sealed, seq, widened, without}
-use Rattle.sql_reader.specs.declared.sort.Mark.TheVariants.{Comma, Opening}
+use Rattle.sql_reader.specs.declared.sort.Mark.TheVariants.{Comma}
 use Rattle.sql_reader.specs.declared.sort.Sort.{Sort}
-use Rattle.query_parse.specs.Exprs.{Inner, expr, select_words, sources, sources_goes_on, sources_starts}
+use Rattle.query_parse.specs.Exprs.{Inner, expr, sources, sources_goes_on, sources_starts}
 use Rattle.query_parse.specs.Lists.{after, in_parens, opt_leaf}
 use Rattle.query_parse.specs.Names.{names, object, opt_alias}
-use Rattle.query_parse.specs.Operands.{arguments, query}
+use Rattle.query_parse.specs.Operands.{arguments, parens_starts, query}
 use Rattle.sql_expr.specs.declared.source.Indexing.TheVariants as Indexing'
 use Rattle.sql_expr.specs.declared.source.Join.TheVariants as Join'
 use Rattle.sql_expr.specs.declared.source.JoinConstraint.TheVariants as JoinConstraint'
@@ -67,6 +63,13 @@ read_join_kind sort = (join_kind_form sort).read
 
 abbrev pub join_kind : (sort : Token → Sort) → Reading sort JoinKind
 join_kind sort = sealed (join_kind_form sort) (read_join_kind sort)
+
+-- how a kind of join begins, and a join
+abbrev pub join_kind_starts : Look
+join_kind_starts = (words sides ∷ []) ∷ (word K.Inner ∷ []) ∷ (word K.Cross ∷ []) ∷ []
+
+abbrev pub join_starts : Look
+join_starts = (sign Comma ∷ []) ∷ (word K.Natural ∷ []) ∷ (join_kind_starts ++ (word K.Join ∷ []) ∷ [])
 
 -- [kind]
 abbrev opt_join_kind_form : (sort : Token → Sort) → Reading sort (Option JoinKind)
@@ -113,9 +116,19 @@ read_opt_join_constraint sort inner = (opt_join_constraint_form sort inner).read
 abbrev pub opt_join_constraint : (sort : Token → Sort) → Inner → Reading sort (Option (JoinConstraint Expr))
 opt_join_constraint sort inner = sealed (opt_join_constraint_form sort inner) (read_opt_join_constraint sort inner)
 
--- "(" sources ")", where a select would begin with WITH
+-- sources, where a select would begin with WITH
+abbrev inner_sources_form : (sort : Token → Sort) → Inner → Reading sort Sources
+inner_sources_form sort inner = without (words (K.With ∷ [])) (sources inner)
+
+unfoldable pub read_inner_sources : (Token → Sort) → Inner → Read Sources
+read_inner_sources sort inner = (inner_sources_form sort inner).read
+
+abbrev pub inner_sources : (sort : Token → Sort) → Inner → Reading sort Sources
+inner_sources sort inner = sealed (inner_sources_form sort inner) (read_inner_sources sort inner)
+
+-- "(" sources ")"
 abbrev sources_parens_form : (sort : Token → Sort) → Inner → Reading sort (InParens Sources)
-sources_parens_form sort inner = in_parens (without (words (K.With ∷ [])) (sources inner))
+sources_parens_form sort inner = in_parens (inner_sources sort inner)
 
 unfoldable pub read_sources_parens : (Token → Sort) → Inner → Read (InParens Sources)
 read_sources_parens sort inner = (sources_parens_form sort inner).read
@@ -123,48 +136,43 @@ read_sources_parens sort inner = (sources_parens_form sort inner).read
 abbrev pub sources_parens : (sort : Token → Sort) → Inner → Reading sort (InParens Sources)
 sources_parens sort inner = sealed (sources_parens_form sort inner) (read_sources_parens sort inner)
 
--- how sources in parentheses begin
-abbrev pub sources_parens_starts : Look
-sources_parens_starts = (sign Opening ∷ none_of (words select_words) ∷ []) ∷ []
-
 -- object [[AS] alias] [INDEXED BY name | NOT INDEXED]
-abbrev table_form : (sort : Token → Sort) → Reading sort ((Object × Option Alias) × Option Indexing)
-table_form sort = seq (seq (object sort) (opt_alias sort)) (opt_indexing sort)
+abbrev table_form : (sort : Token → Sort) → Reading sort TableSource
+table_form sort = formed (λ v. TableSource'.Table v.0.0 v.0.1 v.1) (seq (seq (object sort) (opt_alias sort)) (opt_indexing sort))
 
-unfoldable pub read_table : (Token → Sort) → Read ((Object × Option Alias) × Option Indexing)
+unfoldable pub read_table : (Token → Sort) → Read TableSource
 read_table sort = (table_form sort).read
 
-abbrev pub table : (sort : Token → Sort) → Reading sort ((Object × Option Alias) × Option Indexing)
+abbrev pub table : (sort : Token → Sort) → Reading sort TableSource
 table sort = sealed (table_form sort) (read_table sort)
 
 -- name "(" [exprs] ")" [[AS] alias]
-abbrev table_function_form : (sort : Token → Sort) → Inner → Reading sort ((Token × InParens (Option (Commas Expr))) × Option Alias)
-table_function_form sort inner = seq (lead name (arguments sort inner)) (opt_alias sort)
+abbrev table_function_form : (sort : Token → Sort) → Inner → Reading sort TableSource
+table_function_form sort inner = formed (λ v. TableSource'.TableFunction v.0.0 v.0.1 v.1) (seq (lead name (arguments sort inner)) (opt_alias sort))
 
-unfoldable pub read_table_function : (Token → Sort) → Inner → Read ((Token × InParens (Option (Commas Expr))) × Option Alias)
+unfoldable pub read_table_function : (Token → Sort) → Inner → Read TableSource
 read_table_function sort inner = (table_function_form sort inner).read
 
-abbrev pub table_function : (sort : Token → Sort) → Inner → Reading sort ((Token × InParens (Option (Commas Expr))) × Option Alias)
+abbrev pub table_function : (sort : Token → Sort) → Inner → Reading sort TableSource
 table_function sort inner = sealed (table_function_form sort inner) (read_table_function sort inner)
 
 -- "(" select ")" [[AS] alias]
-abbrev derived_form : (sort : Token → Sort) → Inner → Reading sort (InParens Select × Option Alias)
-derived_form sort inner = seq (query sort inner) (opt_alias sort)
+abbrev derived_form : (sort : Token → Sort) → Inner → Reading sort TableSource
+derived_form sort inner = formed (λ v. TableSource'.Derived v.0 v.1) (seq (query sort inner) (opt_alias sort))
 
-unfoldable pub read_derived : (Token → Sort) → Inner → Read (InParens Select × Option Alias)
+unfoldable pub read_derived : (Token → Sort) → Inner → Read TableSource
 read_derived sort inner = (derived_form sort inner).read
 
-abbrev pub derived : (sort : Token → Sort) → Inner → Reading sort (InParens Select × Option Alias)
+abbrev pub derived : (sort : Token → Sort) → Inner → Reading sort TableSource
 derived sort inner = sealed (derived_form sort inner) (read_derived sort inner)
 
 -- "(" select ")" [[AS] alias] | "(" sources ")" | name "(" [exprs] ")" [[AS] alias]
 -- | object [[AS] alias] [INDEXED BY name | NOT INDEXED]
 abbrev table_source_form : (sort : Token → Sort) → Inner → Reading sort TableSource
 table_source_form sort inner =
-    choice (formed (λ v. TableSource'.Derived v.0 v.1) (derived sort inner))
-    (choice (formed (λ v. TableSource'.Sources v) (widened sources_parens_starts [] (sources_parens sort inner)))
-    (choice (formed (λ v. TableSource'.TableFunction v.0.0 v.0.1 v.1) (table_function sort inner))
-    (formed (λ v. TableSource'.Table v.0.0 v.0.1 v.1) (table sort))))
+    choice (derived sort inner)
+    (choice (formed (λ v. TableSource'.Sources v) (widened parens_starts [] (sources_parens sort inner)))
+    (choice (table_function sort inner) (table sort)))
 
 unfoldable pub read_table_source : (Token → Sort) → Inner → Read TableSource
 read_table_source sort inner = (table_source_form sort inner).read

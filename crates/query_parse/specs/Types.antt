@@ -1,14 +1,14 @@
 -- What is read as the type of a column.
-use Rattle.std.specs.Prelude.{List, Option}
+use Rattle.std.specs.Prelude.{List, Option, [], ◌∷◌}
 use Rattle.sql_token.specs.declared.token.Token.{Token}
 use Rattle.sql_expr.specs.declared.lists.InParens.{InParens}
 use Rattle.sql_expr.specs.declared.lists.NextItem.{NextItem}
 use Rattle.sql_expr.specs.declared.names.ColumnType.{ColumnType}
 use Rattle.sql_expr.specs.declared.names.Signed.{Signed}
 use Rattle.sql_expr.specs.declared.names.TypeSize.{TypeSize}
-use Rattle.sql_reader.specs.Looks.{Set, both, either, join_word, name, none_of, number, sign, word}
-use Rattle.sql_reader.specs.Reading.{Read, Reading, choice, formed, leaf, leaf_before, many, opt, sealed, seq}
-use Rattle.sql_reader.specs.declared.sort.Mark.TheVariants.{Minus, Plus}
+use Rattle.sql_reader.specs.Looks.{Look, Set, both, either, join_word, name, none_of, number, sign, word}
+use Rattle.sql_reader.specs.Reading.{Read, Reading, choice, formed, leaf, leaf_before, many, opt, sealed, seq, widened}
+use Rattle.sql_reader.specs.declared.sort.Mark.TheVariants.{Minus, Opening, Plus}
 use Rattle.sql_reader.specs.declared.sort.Sort.{Sort}
 use Rattle.query_parse.specs.Lists.{in_parens, next_item, opt_leaf}
 use Rattle.sql_token.specs.declared.keyword.Keyword.TheVariants as K
@@ -17,9 +17,17 @@ use Rattle.sql_token.specs.declared.keyword.Keyword.TheVariants as K
 abbrev pub type_name : Set
 type_name = both name (none_of join_word)
 
+-- a name in a type other than GENERATED
+abbrev pub other_name : Set
+other_name = both type_name (none_of (word K.Generated))
+
+-- how a name in a type begins
+abbrev pub type_name_starts : Look
+type_name_starts = (other_name ∷ []) ∷ (word K.Generated ∷ none_of (word K.Always) ∷ []) ∷ []
+
 -- a name in a type, but GENERATED only where ALWAYS does not follow
 abbrev next_type_name_form : (sort : Token → Sort) → Reading sort Token
-next_type_name_form sort = choice (leaf (both type_name (none_of (word K.Generated)))) (leaf_before (word K.Generated) (word K.Always))
+next_type_name_form sort = choice (leaf other_name) (leaf_before (word K.Generated) (word K.Always))
 
 unfoldable pub read_next_type_name : (Token → Sort) → Read Token
 read_next_type_name sort = (next_type_name_form sort).read
@@ -69,7 +77,7 @@ type_size sort = sealed (type_size_form sort) (read_type_size sort)
 
 -- ["(" signed ["," signed] ")"]
 abbrev opt_size_form : (sort : Token → Sort) → Reading sort (Option (InParens TypeSize))
-opt_size_form sort = opt (in_parens (type_size sort))
+opt_size_form sort = opt (widened ((sign Opening ∷ []) ∷ []) [] (in_parens (type_size sort)))
 
 unfoldable pub read_opt_size : (Token → Sort) → Read (Option (InParens TypeSize))
 read_opt_size sort = (opt_size_form sort).read

@@ -142,14 +142,31 @@ read_opt_order sort inner = (opt_order_form sort inner).read
 abbrev pub opt_order : (sort : Token → Sort) → Inner → Reading sort (Option (By (Term Expr)))
 opt_order sort inner = sealed (opt_order_form sort inner) (read_opt_order sort inner)
 
+-- UNBOUNDED (PRECEDING|FOLLOWING) | CURRENT ROW
+abbrev plain_bound_form : (sort : Token → Sort) → Reading sort (Bound Expr)
+plain_bound_form sort =
+    choice (formed (λ v. Bound'.Unbounded v.0 v.1) (begun (word K.Unbounded) (leaf (words ways))))
+    (formed (λ v. Bound'.CurrentRow v.0 v.1) (begun (word K.Current) (leaf (word K.Row))))
+
+unfoldable pub read_plain_bound : (Token → Sort) → Read (Bound Expr)
+read_plain_bound sort = (plain_bound_form sort).read
+
+abbrev pub plain_bound : (sort : Token → Sort) → Reading sort (Bound Expr)
+plain_bound sort = sealed (plain_bound_form sort) (read_plain_bound sort)
+
+-- an expression that does not begin with UNBOUNDED or CURRENT
+abbrev bound_expr_form : (sort : Token → Sort) → Inner → Reading sort Expr
+bound_expr_form sort inner = without (words (K.Unbounded ∷ K.Current ∷ [])) (expr inner)
+
+unfoldable pub read_bound_expr : (Token → Sort) → Inner → Read Expr
+read_bound_expr sort inner = (bound_expr_form sort inner).read
+
+abbrev pub bound_expr : (sort : Token → Sort) → Inner → Reading sort Expr
+bound_expr sort inner = sealed (bound_expr_form sort inner) (read_bound_expr sort inner)
+
 -- UNBOUNDED (PRECEDING|FOLLOWING) | CURRENT ROW | expr (PRECEDING|FOLLOWING)
 abbrev bound_form : (sort : Token → Sort) → Inner → Reading sort (Bound Expr)
-bound_form sort inner =
-    choice
-    (choice
-    (formed (λ v. Bound'.Unbounded v.0 v.1) (begun (word K.Unbounded) (leaf (words ways))))
-    (formed (λ v. Bound'.CurrentRow v.0 v.1) (begun (word K.Current) (leaf (word K.Row)))))
-    (formed (λ v. Bound'.Expr v.0 v.1) (seq (without (words (K.Unbounded ∷ K.Current ∷ [])) (expr inner)) (leaf (words ways))))
+bound_form sort inner = choice (plain_bound sort) (formed (λ v. Bound'.Expr v.0 v.1) (seq (bound_expr sort inner) (leaf (words ways))))
 
 unfoldable pub read_bound : (Token → Sort) → Inner → Read (Bound Expr)
 read_bound sort inner = (bound_form sort inner).read

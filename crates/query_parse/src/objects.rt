@@ -2,14 +2,14 @@
 
 ghost use Rattle.std.specs.Prelude.{◌≡◌};
 ghost use Rattle.sql_reader.specs.Cursor.{Gives, Finds};
-ghost use Rattle.sql_reader.specs.Looks.{name};
-ghost use Rattle.sql_reader.specs.Reading.{read_leaf_before};
-ghost use Rattle.query_parse.specs.Exprs.{dot_or_opening};
-ghost use Rattle.query_parse.specs.Names.{read_qualifier, read_object, read_next_name, read_more_names, read_name_list, read_names};
+ghost use Rattle.query_parse.specs.Names.{read_alias, read_column_use, read_long_use, read_more_names, read_name_list, read_names, read_next_name, read_object, read_opt_alias, read_opt_names, read_qualifier, read_third_name};
 
-use sql_expr::{Commas, InParens, NextItem, Object, TokenPair};
-use sql_reader::{Cursor, Mark, ReadError, Sort};
-use sql_token::Token;
+use crate::leaves::{
+    bare_alias, column_name, is_bare_alias, is_lone_column, operand_name, whole_name,
+};
+use sql_expr::{Alias, ColumnUse, Commas, InParens, NextItem, Object, TokenPair};
+use sql_reader::{Cursor, Mark, ReadError};
+use sql_token::{Keyword, Token};
 use sqlite_items::Items;
 use std::alloc::Global;
 
@@ -21,20 +21,6 @@ pub fn object(cursor: &mut Cursor<'_>) -> Result<Object, ReadError>
     let qualifier = qualifier(cursor)?;
     let name = whole_name(cursor)?;
     Ok(Object { qualifier, name })
-}
-
-/// A name that is no front of a longer use or of a call.
-fn whole_name(cursor: &mut Cursor<'_>) -> Result<Token, ReadError>
-    ensures { Finds (λ sort. read_leaf_before sort name dot_or_opening) result cursor.old cursor.new }
-{
-    let fits = cursor.first().is_name() && !is_dot_or_opening(cursor.second());
-    cursor.take_if(fits)
-}
-
-fn is_dot_or_opening(sort: Sort) -> bool
-    ensures { result ≡ dot_or_opening sort }
-{
-    sort.is_sign(Mark::Dot) || sort.is_sign(Mark::Opening)
 }
 
 /// `[name "."]`
@@ -96,4 +82,94 @@ fn more_names(alloc: Global, cursor: &mut Cursor<'_>) -> Result<Items<NextItem<T
         more.push(next)?;
     }
     Ok(more)
+}
+
+/// `["(" names ")"]`
+#[tactic(auto, unfolding(crate::specs::Names::read_opt_names))]
+pub fn opt_names(
+    alloc: Global,
+    cursor: &mut Cursor<'_>,
+) -> Result<Option<InParens<Commas<Token>>>, ReadError>
+    ensures { Gives read_opt_names result cursor.old cursor.new }
+{
+    if cursor.first().is_sign(Mark::Opening) && cursor.second().is_name() {
+        return Ok(Some(names(alloc, cursor)?));
+    }
+    Ok(None)
+}
+
+/// `[AS] alias`
+#[tactic(auto, unfolding(crate::specs::Names::read_alias))]
+fn alias(cursor: &mut Cursor<'_>) -> Result<Alias, ReadError>
+    ensures { Finds read_alias result cursor.old cursor.new }
+{
+    if cursor.first().is_word(Keyword::As) {
+        let as_word = cursor.word(Keyword::As)?;
+        let name = cursor.name()?;
+        return Ok(Alias {
+            as_word: Some(as_word),
+            name,
+        });
+    }
+    let name = bare_alias(cursor)?;
+    Ok(Alias {
+        as_word: None,
+        name,
+    })
+}
+
+/// `[[AS] alias]`
+#[tactic(auto, unfolding(crate::specs::Names::read_opt_alias))]
+pub fn opt_alias(cursor: &mut Cursor<'_>) -> Result<Option<Alias>, ReadError>
+    ensures { Finds read_opt_alias result cursor.old cursor.new }
+{
+    let first = cursor.first();
+    if first.is_word(Keyword::As) || is_bare_alias(first) {
+        return Ok(Some(alias(cursor)?));
+    }
+    Ok(None)
+}
+
+/// `["." name]`
+#[tactic(auto, unfolding(crate::specs::Names::read_third_name))]
+fn third_name(cursor: &mut Cursor<'_>) -> Result<Option<TokenPair>, ReadError>
+    ensures { Finds read_third_name result cursor.old cursor.new }
+{
+    if cursor.first().is_sign(Mark::Dot) && cursor.second().is_name() {
+        let first = cursor.sign(Mark::Dot)?;
+        let second = cursor.name()?;
+        return Ok(Some(TokenPair { first, second }));
+    }
+    Ok(None)
+}
+
+/// `name | name "." name | name "." name "." name`
+#[tactic(auto, unfolding(crate::specs::Names::read_column_use))]
+pub fn column_use(cursor: &mut Cursor<'_>) -> Result<ColumnUse, ReadError>
+    ensures { Finds read_column_use result cursor.old cursor.new }
+{
+    if is_lone_column(cursor.first(), cursor.second()) {
+        return Ok(ColumnUse::One(column_name(cursor)?));
+    }
+    long_use(cursor)
+}
+
+/// `name "." name | name "." name "." name`
+#[tactic(auto, unfolding(crate::specs::Names::read_long_use))]
+fn long_use(cursor: &mut Cursor<'_>) -> Result<ColumnUse, ReadError>
+    ensures { Finds read_long_use result cursor.old cursor.new }
+{
+    let table = operand_name(cursor)?;
+    let dot = cursor.sign(Mark::Dot)?;
+    let column = cursor.name()?;
+    match third_name(cursor)? {
+        Some(third) => Ok(ColumnUse::Three {
+            schema: table,
+            first_dot: dot,
+            table: column,
+            second_dot: third.first,
+            column: third.second,
+        }),
+        None => Ok(ColumnUse::Two { table, dot, column }),
+    }
 }
