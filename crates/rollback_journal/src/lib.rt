@@ -10,6 +10,8 @@ mod playback;
 mod reads;
 mod record;
 mod recovery;
+#[cfg(test)]
+mod recovery_tests;
 mod replay;
 mod sum;
 #[cfg(test)]
