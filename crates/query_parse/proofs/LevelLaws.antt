@@ -1,5 +1,5 @@
 -- The laws of what is read level by level: trees of less than a height are read, and as many levels as tokens are enough.
-use Rattle.std.proofs.Common.{List, None, Option, Some, [], ap, arith, false, inl, length, refl, subst, suc, sym, true, zero, ℕ, ⊎_elim, ◌++◌, ◌+◌, ◌<◌, ◌∙◌, ◌∷◌, ◌≡◌, ◌≤◌, ◌⊎◌}
+use Rattle.std.proofs.Common.{List, None, Option, Some, [], ap, arith, false, inl, length, refl, subst, suc, sym, true, zero, ℕ, ⊎_elim, ◌++◌, ◌+◌, ◌<◌, ◌∙◌, ◌∷◌, ◌≡◌, ◌≤◌}
 use Rattle.std.proofs.lemmas.Bool.{both_ways, cases_lt}
 use Rattle.std.proofs.lemmas.List.{append-nil}
 use Rattle.sql_token.specs.Spelled.{one}
@@ -10,7 +10,6 @@ use Rattle.sql_expr.specs.Tree.{expr_tokens, select_tokens}
 use Rattle.sql_expr.specs.declared.expr.Expr.{Expr}
 use Rattle.sql_expr.specs.declared.select.Select.{Select}
 use Rattle.sql_reader.proofs.Laws.{Reads}
-use Rattle.sql_reader.proofs.Loops.{goes_on}
 use Rattle.sql_reader.proofs.Outcomes.{reach, same_outcome}
 use Rattle.sql_reader.specs.Looks.{Look}
 use Rattle.sql_reader.specs.Reading.{Read, Reading, child}

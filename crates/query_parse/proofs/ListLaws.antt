@@ -24,7 +24,6 @@ use Rattle.sql_reader.specs.Sorts.{sort_of}
 use Rattle.sql_reader.specs.declared.sort.Mark.TheVariants.{Closing, Comma, Opening}
 use Rattle.sql_reader.specs.declared.sort.Sort.{Sort}
 use Rattle.query_parse.specs.Lists.{after, by, commas, in_parens, maybe_not, next_item, opt_leaf, pair, read_maybe_not, read_opt_leaf}
-use Rattle.query_parse.specs.Windows.{bound}
 use Rattle.sql_token.specs.declared.keyword.Keyword.TheVariants as K
 
 -- two tokens

@@ -24,7 +24,6 @@ use Rattle.sql_reader.specs.declared.sort.Mark.TheVariants.{Dot}
 use Rattle.query_parse.proofs.LeafLaws.{bare_alias_fits, operand_name_fits}
 use Rattle.query_parse.proofs.ListLaws.{commas_reads, in_parens_reads, next_item_reads, pair_reads}
 use Rattle.query_parse.specs.Exprs.{column_name}
-use Rattle.query_parse.specs.Lists.{pair}
 use Rattle.query_parse.specs.Names.{alias, column_use, name_list, names, next_name, object, opt_alias, opt_names, qualified_use, qualifier, read_alias, read_column_use, read_long_use, read_more_names, read_name_list, read_names, read_next_name, read_object, read_opt_alias, read_opt_names, read_qualifier, read_third_name, third_name}
 use Rattle.sql_expr.specs.declared.names.ColumnUse.TheVariants as ColumnUse'
 use Rattle.sql_token.specs.declared.keyword.Keyword.TheVariants as K

@@ -39,7 +39,6 @@ use Rattle.query_parse.proofs.WindowLaws.{exprs_reads}
 use Rattle.query_parse.specs.Exprs.{Inner, select}
 use Rattle.query_parse.specs.Lists.{pair}
 use Rattle.query_parse.specs.Operands.{arguments, expr_level, in_set, infix_part, infix_part_of, infix_parts, is_part, list_parens, operand, opt_exprs, opt_row, parens_starts, part, postfix, postfixes, prefixes, query, read_arguments, read_expr_level, read_free_part, read_in_set, read_infix_part, read_infix_parts, read_is_part, read_list_parens, read_operand, read_opt_exprs, read_opt_row, read_other_operand, read_part, read_postfix, read_postfixes, read_prefixes, read_query, read_row, read_row_parens, read_subquery, row, row_parens, subquery}
-use Rattle.query_parse.specs.Operators.{operator}
 use Rattle.sql_expr.specs.declared.expr.InSet.TheVariants as InSet'
 use Rattle.sql_expr.specs.declared.operators.Infix.TheVariants as Infix'
 use Rattle.sql_token.specs.declared.keyword.Keyword.TheVariants as K

@@ -23,7 +23,7 @@ use Rattle.sql_reader.proofs.Looks.{clear-apart, clear-left, clear-right, looks-
 use Rattle.sql_reader.proofs.Outcomes.{made_is, made_parts, rest_at_most, same_outcome, then_is, then_parts}
 use Rattle.sql_reader.proofs.TokenSorts.{fixed_sort}
 use Rattle.sql_reader.proofs.Turns.{TakesToken}
-use Rattle.sql_reader.specs.Looks.{Look, apart, looks, name, next_sort, none_of, sign, word}
+use Rattle.sql_reader.specs.Looks.{Look, apart, looks, next_sort, none_of, sign, word}
 use Rattle.sql_reader.specs.Reading.{Read, and_then, made_of, read_leaf, read_leaf_before, read_many, read_seq, read_turns, seq}
 use Rattle.sql_reader.specs.Sorts.{sort_of}
 use Rattle.sql_reader.specs.declared.sort.Mark.TheVariants.{Minus, Opening, Plus}

@@ -32,7 +32,6 @@ use Rattle.sql_reader.specs.declared.sort.Mark.TheVariants.{Closing, Opening}
 use Rattle.query_parse.proofs.LeafLaws.{Nested, base_name_fits}
 use Rattle.query_parse.proofs.ListLaws.{after_reads, by_reads, commas_reads, next_item_reads, opt_leaf_reads, pair_reads}
 use Rattle.query_parse.specs.Exprs.{Inner}
-use Rattle.query_parse.specs.Lists.{pair}
 use Rattle.query_parse.specs.Operands.{row}
 use Rattle.query_parse.specs.Windows.{bound, excluded, exprs, frame, frame_extent, frame_units, named_window, next_expr, next_term, nulls, opt_after, opt_by, opt_exclude, opt_frame, opt_order, read_bound, read_bound_expr, read_excluded, read_exprs, read_frame, read_frame_extent, read_more_exprs, read_more_terms, read_named_window, read_next_expr, read_next_term, read_nulls, read_opt_after, read_opt_by, read_opt_exclude, read_opt_frame, read_opt_order, read_plain_bound, read_term, read_terms, read_window, term, terms, window}
 use Rattle.sql_expr.specs.declared.window.Bound.TheVariants as Bound'
