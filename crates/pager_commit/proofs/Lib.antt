@@ -1,7 +1,14 @@
+pub mod After
 pub mod Cold
+pub mod CommitLemmas
+pub mod Images
 pub mod Made
 pub mod Own
 pub mod RecordLemmas
+pub mod Replayed
+pub mod Reread
 pub mod StageLemmas
+pub mod Standings
 pub mod ThroughLemmas
 pub mod WriteLemmas
+pub mod Written

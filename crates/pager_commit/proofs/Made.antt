@@ -27,10 +27,13 @@ module _ {D : Type 0} (pages : Pages D) (files : Option Files) (front journal : 
       (opens, omega (arith, len), omega (arith, len, small))
 
   pub made_plan : front ≡ bytes_of (header_for pages) true ++ replicate 484 0 → HasRecords (is_changed pages) (shape_of pages).page (before_of pages) files front journal
-      → (f : Files) → files ≡ Some f → IsPlanOf pages f.db journal
-  made_plan begins has f is =
+      → IsShape (shape_of pages) → (1 ≤ before_of pages) × (before_of pages ≤ (shape_of pages).count) → (f : Files) → files ≡ Some f → IsPlanOf pages f.db journal
+  made_plan begins has sound within f is =
       let entries : has.entries ≡ originals pages f.db = if_some (λ (f : Files). has.entries ≡ map (entry_at (shape_of pages).page f.db) (numbers_upto (is_changed pages) (before_of pages))) files f is has.told in
       record {
+        sound = sound;
+        some = within.0;
+        within = within.1;
         journal = has.journal ∙ ap₂ (λ (a : List ℕ) (es : List Entry). a ++ flat_map record_of es) begins entries;
         own = own journal (subst EndsSmall (sym has.journal) (journal_ends (shape_of pages).page front has.entries (subst EndsSmall (sym begins) (front_ends (header_for pages))) has.small));
       }

@@ -7,7 +7,7 @@ use Rattle.alter_disk.proofs.Moments.{goes_far, weaker}
 use Rattle.rollback_journal.specs.Header.{magic}
 use Rattle.pager_core.specs.declared.pages.Pages.{Pages}
 use Rattle.pager_core.specs.Pages.{is_changed, shape_of}
-use Rattle.pager_commit.specs.Stages.{ColdBeside, ColdOr, GoesThrough, RestBoth, Unchanged, written_whole}
+use Rattle.pager_commit.specs.Stages.{ColdBeside, ColdOr, HasExtents, Unchanged, written_whole}
 
 -- a journal is its first eight bytes and the rest
 pub whole_again : (log : List ℕ) → take 8 log ++ take (length log - 8) (drop 8 log) ≡ log
@@ -36,13 +36,13 @@ module _ {D : Type 0} (disk : Ghosts D) where
   module _ (pages : Pages D) (base log : List ℕ) where
     -- the pages are written beside the whole journal
     pub written_behind : (mid late : D) → Leaves disk mid late (Unchanged (is_changed pages) (shape_of pages).page base log)
-        → Leaves disk mid late (λ c. Unchanged (is_changed pages) (shape_of pages).page base log c ⊎ ColdOr (written_whole pages base) log c)
+        → Leaves disk mid late (λ c. Unchanged (is_changed pages) (shape_of pages).page base log c ⊎ (HasExtents (shape_of pages).count pages × ColdOr (written_whole pages base) log c))
     written_behind mid late leaves = weaker disk mid late _ _ (λ c one. inl one) leaves
 
     -- and then the journal is ended
     pub ended_behind : (mid late new : D) → Leaves disk mid late (Unchanged (is_changed pages) (shape_of pages).page base log)
-        → take 8 log ≡ magic → Leaves disk late new (ColdOr (written_whole pages base) (magic ++ drop 8 log))
-        → Leaves disk mid new (λ c. Unchanged (is_changed pages) (shape_of pages).page base log c ⊎ ColdOr (written_whole pages base) log c)
-    ended_behind mid late new leaves begins last =
+        → HasExtents (shape_of pages).count pages → take 8 log ≡ magic → Leaves disk late new (ColdOr (written_whole pages base) (magic ++ drop 8 log))
+        → Leaves disk mid new (λ c. Unchanged (is_changed pages) (shape_of pages).page base log c ⊎ (HasExtents (shape_of pages).count pages × ColdOr (written_whole pages base) log c))
+    ended_behind mid late new leaves extents begins last =
         let P : List ℕ → Type 0 = λ l. Leaves disk late new (ColdOr (written_whole pages base) l) in
-        goes_far disk mid late new _ (written_behind mid late leaves) (weaker disk late new _ _ (λ c one. inr one) (subst P (whole_behind log begins) last))
+        goes_far disk mid late new _ (written_behind mid late leaves) (weaker disk late new _ _ (λ c one. inr (extents, one)) (subst P (whole_behind log begins) last))

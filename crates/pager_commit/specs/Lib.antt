@@ -1,4 +1,5 @@
 pub mod Opens
 pub mod Plan
+pub mod Ready
 pub mod Records
 pub mod Stages

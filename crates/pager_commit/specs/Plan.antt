@@ -1,5 +1,5 @@
 -- The journal of a commit: by its records the pages are restored as they were before the changes.
-use Rattle.std.specs.Prelude.{◌≡◌, ◌<◌, ◌^◌, ℕ, zero, suc, ◌-◌, Bool, true, false, if◌then◌else◌, List, [], ◌∷◌, ◌++◌, length, drop, map, replicate, Option}
+use Rattle.std.specs.Prelude.{◌≡◌, ◌<◌, ◌≤◌, ◌^◌, ℕ, zero, suc, ◌-◌, Bool, true, false, if◌then◌else◌, List, [], ◌∷◌, ◌++◌, length, drop, map, replicate, Option}
 use Rattle.std.specs.List.{flat_map}
 use Rattle.byteorder.specs.Endian.{big_bytes}
 use Rattle.alter_disk.specs.Changes.{IfTold}
@@ -10,6 +10,7 @@ use Rattle.rollback_journal.specs.Header.{bytes_of, has_magic}
 use Rattle.rollback_journal.specs.Records.{Entry}
 use Rattle.pager_core.specs.declared.pages.Pages.{Pages}
 use Rattle.pager_core.specs.Pages.{before_of, is_changed, page_bytes, shape_of}
+use Rattle.pager_core.specs.Shape.{IsShape}
 
 -- the numbers from 1 to n of which the test holds, in order
 abbrev pub numbers_upto : (ℕ → Bool) → ℕ → List ℕ
@@ -43,6 +44,9 @@ module _ {D : Type 0} where
 
   -- the plan is the journal of the changed pages as this database has them, and its last eight bytes are not the magic
   pub record IsPlanOf (pages : Pages D) (db plan : List ℕ) : Type 0 where
+    pub sound : IsShape (shape_of pages)
+    pub some : 1 ≤ before_of pages
+    pub within : before_of pages ≤ (shape_of pages).count
     pub journal : plan ≡ journal_of (header_for pages) (originals pages db)
     pub own : has_magic (drop (length plan - 8) plan) ≡ false
 

@@ -75,7 +75,7 @@ pub record GoesThrough {D : Type 0} (disk : Ghosts D) (pages : Pages D) (base lo
   pub mid : D
   pub whole : (mid ≡ new) ⊎ RestBoth disk base log mid
   pub before : Leaves disk (disk_of pages) mid (ColdOr base log)
-  pub behind : Leaves disk mid new (λ c. Unchanged (is_changed pages) (shape_of pages).page base log c ⊎ ColdOr (written_whole pages base) log c)
+  pub behind : Leaves disk mid new (λ c. Unchanged (is_changed pages) (shape_of pages).page base log c ⊎ (HasExtents (shape_of pages).count pages × ColdOr (written_whole pages base) log c))
 
 -- the database rests as these bytes, beside a cold journal that rests
 pub record IsEnded {D : Type 0} (disk : Ghosts D) (base : List ℕ) (d : D) : Type 0 where

@@ -2,13 +2,12 @@
 ghost use Rattle.std.specs.Prelude.{◌≡◌, true, List, ℕ, Some, IfOk, IsErrOf, OnErr, OnOk};
 ghost use Rattle.alter_disk.specs.Faults.{HasCause};
 ghost use Rattle.alter_disk.specs.Rest.{KeepsRest};
-ghost use Rattle.rollback_journal.specs.Heat.{heat_of};
-ghost use Rattle.rollback_journal.specs.declared.heat.Heat.TheVariants.{Cold};
 ghost use Rattle.alter_disk.specs.Files.{Files};
 ghost use Rattle.alter_disk.specs.Moments.{ReadsQuietly};
 ghost use Rattle.alter_disk.specs.Uses.{ReadFailed};
 ghost use Rattle.pager_core.specs.Pages.{SettlesChanges, disk_of, with_disk};
-ghost use Rattle.pager_commit.specs.Stages.{GoesThrough, IsEnded, RestBoth, written_whole};
+ghost use Rattle.pager_core.specs.Image.{image_of, known_image};
+ghost use Rattle.pager_commit.specs.Ready.{EachStands, IsCommitted, IsOverDatabase, IsReady, StopsBetween};
 ghost use Rattle.pager_commit.specs.Plan.{IsPlanOf};
 
 use crate::commit::write_all;
@@ -52,8 +51,10 @@ impl Plan {
     /// Writes the changed pages to the database, by way of the journal. It takes no memory.
     pub fn commit<D: Disk>(self, pages: &mut Pages<D>) -> Result<(), Failed>
         requires { D.called (disk_of pages.old) ≡ true }
-        ensures done { OnOk result ((base log : List ℕ) → RestBoth D.Disk base log (disk_of pages.old) → IsEnded D.Disk (written_whole pages.old base) (disk_of pages.new)) }
-        ensures stops { (base log : List ℕ) → RestBoth D.Disk base log (disk_of pages.old) → heat_of log ≡ Cold → GoesThrough D.Disk pages.old base self (disk_of pages.new) }
+        ensures done { OnOk result ((base log : List ℕ) (after : List (List ℕ)) → IsReady D.Disk pages.old base log self → EachStands D.Disk pages.old base
+            → known_image D.Disk pages.old ≡ Some after → IsCommitted D.Disk after (disk_of pages.new)) }
+        ensures stops { (base log : List ℕ) (before after : List (List ℕ)) → IsReady D.Disk pages.old base log self → IsOverDatabase D.Disk pages.old base
+            → image_of base ≡ Some before → known_image D.Disk pages.old ≡ Some after → StopsBetween D.Disk before after base self (disk_of pages.old) (disk_of pages.new) }
         ensures settled { OnOk result (SettlesChanges D.Disk (with_disk pages.old (disk_of pages.new)) pages.new) }
         ensures kept { OnErr result (pages.new ≡ with_disk pages.old (disk_of pages.new)) }
         ensures rest { KeepsRest D.label D.called D.opened D.read_faults (disk_of pages.old) (disk_of pages.new) }

@@ -50,7 +50,7 @@ get_or-overwritten old at piece j outside =
     ]
 
 -- a page has its size, and its bytes are those at its place
-length-page : (size n : ℕ) (bytes : List ℕ) → length (page_bytes size n bytes) ≡ size
+pub length-page : (size n : ℕ) (bytes : List ℕ) → length (page_bytes size n bytes) ≡ size
 length-page size n bytes =
     let got = take size (drop ((n - 1) * size) bytes) in
     omega (arith, length-append got (replicate (size - length got) 0), length-replicate {A = ℕ} (size - length got) 0, length-take size (drop ((n - 1) * size) bytes))

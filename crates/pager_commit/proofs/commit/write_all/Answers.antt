@@ -38,5 +38,5 @@ returns-clause-stops g c = λ base log rests cold.
       whole = inr whole;
       before = subst (λ d. Leaves g.D.Disk d c.open_journal.new.disk (ColdOr base journal)) c.disk.ensures.disk (c.open_journal.ensures.stops base log lent cold);
       behind = ended_behind g.D.Disk c.args.pages.now base journal _ c.disk-2.result.now _
-          (subst (λ d. Leaves g.D.Disk c.open_journal.new.disk d (Unchanged (is_changed c.args.pages.now) (shape_of c.args.pages.now).page base journal)) (sym c.disk-2.ensures.disk) (c.write_pages.ensures.stops base journal whole)) c.requires.begins ended;
+          (subst (λ d. Leaves g.D.Disk c.open_journal.new.disk d (Unchanged (is_changed c.args.pages.now) (shape_of c.args.pages.now).page base journal)) (sym c.disk-2.ensures.disk) (c.write_pages.ensures.stops base journal whole)) c.in_ok-write_pages.ensures.extents c.requires.begins ended;
     }
