@@ -1,23 +1,22 @@
 -- The image of a database in which the changed pages were written.
-use Rattle.std.proofs.Common.{◌≡◌, ◌⊎◌, inl, inr, ⊎_elim, ℕ, zero, suc, ◌+◌, ◌-◌, ◌*◌, ◌/◌, ◌<◌, ◌≤◌, ◌==◌, Bool, true, false, not, ◌&&◌, if◌then◌else◌, List, [], length, take, drop, Option, Some, None, unwrap_or, refl, sym, ap, ap₂, ◌∙◌, subst, arith}
+use Rattle.std.proofs.Common.{◌≡◌, inl, inr, ℕ, zero, suc, ◌-◌, ◌*◌, ◌/◌, ◌≤◌, ◌==◌, Bool, true, false, not, if◌then◌else◌, List, length, take, drop, Some, refl, sym, ap, ◌∙◌, subst, arith}
 use Rattle.std.proofs.lemmas.Bool.{and_from, cases_Bool, cases_eq, eq-eqb, ne_eqb}
 use Rattle.std.proofs.lemmas.List.{take-take}
-use Rattle.std.specs.Option.{option_or}
 use Rattle.alter_disk.specs.declared.disk.Disk.{Ghosts}
 use Rattle.alter_disk.specs.Changes.{Torn, overwritten}
 use Rattle.alter_disk.proofs.Pending.{torn_whole}
 use Rattle.rollback_journal.specs.Playback.{file_page}
 use Rattle.rollback_journal.proofs.FilePages.{page_beside, page_written}
 use Rattle.pager_core.specs.declared.pages.Pages.{Pages}
-use Rattle.pager_core.specs.Header.{has_page_count, is_page_size, number_at, page_count, page_size}
-use Rattle.pager_core.specs.Image.{all_upto, image_of, known_image, whole_page}
-use Rattle.pager_core.specs.Pages.{bytes_of, is_changed, known, page_bytes, shape_of, shown, told}
+use Rattle.pager_core.specs.Header.{has_page_count, number_at, page_count, page_size}
+use Rattle.pager_core.specs.Image.{image_of, known_image, whole_page}
+use Rattle.pager_core.specs.Pages.{bytes_of, is_changed, known, shape_of}
 use Rattle.pager_core.specs.Shape.{IsShape}
-use Rattle.pager_commit.specs.Ready.{EachStands, HasFirstPage, StandsIn}
+use Rattle.pager_commit.specs.Ready.{EachStands, HasFirstPage}
 use Rattle.pager_core.proofs.Fits.{changed_known}
 use Rattle.pager_core.proofs.Sound.{page_large}
-use Rattle.pager_commit.specs.Stages.{HasExtents, KeepsUnchanged, written_one, written_upto, written_whole}
-use Rattle.pager_commit.proofs.Images.{all_alike, counts_alike, image_is, numbers_alike, size_alike, whole_is}
+use Rattle.pager_commit.specs.Stages.{HasExtents, KeepsUnchanged, written_upto, written_whole}
+use Rattle.pager_commit.proofs.Images.{image_is, numbers_alike, size_alike, whole_is}
 use Rattle.pager_commit.proofs.Replayed.{whole_page_bytes}
 use Rattle.pager_commit.proofs.WriteLemmas.{keeps_all, keeps_on, keeps_torn}
 

@@ -1,10 +1,9 @@
 -- A commit leaves the image before or the one after.
-use Rattle.std.proofs.Common.{◌≡◌, ◌⊎◌, inl, inr, ⊎_elim, ℕ, ◌*◌, ◌^◌, ◌≤◌, ◌<◌, List, length, Some, true, refl, sym, ap, ◌∙◌, subst, arith}
+use Rattle.std.proofs.Common.{◌≡◌, ◌⊎◌, inl, inr, ⊎_elim, ℕ, ◌*◌, ◌^◌, ◌≤◌, List, length, Some, sym, ap, ◌∙◌, subst, arith}
 use Rattle.std.proofs.lemmas.Bool.{cases_Bool, cases_lt}
 use Rattle.std.proofs.Math.Nat.{mul-le-mul_right}
 use Rattle.alter_disk.specs.declared.disk.Disk.{Ghosts}
 use Rattle.alter_disk.specs.Files.{Files}
-use Rattle.alter_disk.specs.Moments.{Leaves}
 use Rattle.alter_disk.proofs.Moments.{weaker}
 use Rattle.rollback_journal.specs.declared.heat.Heat.TheVariants.{Cold}
 use Rattle.rollback_journal.specs.Heat.{heat_of}
@@ -15,7 +14,7 @@ use Rattle.pager_core.specs.Pages.{before_of, bytes_of, disk_of, is_changed, sha
 use Rattle.pager_core.proofs.Fits.{unchanged_known}
 use Rattle.pager_commit.specs.Opens.{Opens, image_by}
 use Rattle.pager_commit.specs.Ready.{EachStands, IsCommitted, IsOverDatabase, IsReady, StopsBetween}
-use Rattle.pager_commit.specs.Stages.{ColdOr, GoesThrough, HasExtents, IsEnded, KeepsUnchanged, Unchanged, written_whole}
+use Rattle.pager_commit.specs.Stages.{ColdOr, GoesThrough, HasExtents, IsEnded, KeepsUnchanged, written_whole}
 use Rattle.pager_commit.proofs.After.{after_image, written_keeps}
 use Rattle.pager_commit.proofs.Standings.{IsOver, cold_or_opens, unchanged_opens}
 

@@ -1,9 +1,8 @@
 -- Bytes with the same pages have the same image.
-use Rattle.std.proofs.Common.{◌≡◌, inl, inr, ℕ, zero, suc, ◌+◌, ◌-◌, ◌*◌, ◌/◌, ◌^◌, ◌<◌, ◌≤◌, ◌==◌, Bool, true, false, not, ◌&&◌, if◌then◌else◌, List, [], ◌∷◌, ◌++◌, length, take, drop, nat_le, Option, Some, None, refl, sym, ap, ap₂, ◌∙◌, subst, arith}
-use Rattle.std.proofs.lemmas.Bool.{and_from, le-leb, ne_eqb, eq-eqb}
-use Rattle.std.proofs.lemmas.List.{drop-take, length-take-le, take-take}
+use Rattle.std.proofs.Common.{◌≡◌, ℕ, zero, suc, ◌+◌, ◌-◌, ◌*◌, ◌/◌, ◌≤◌, ◌==◌, Bool, true, false, not, ◌&&◌, if◌then◌else◌, List, length, take, drop, nat_le, Option, Some, None, refl, sym, ap, ap₂, ◌∙◌, arith}
+use Rattle.std.proofs.lemmas.Bool.{le-leb}
+use Rattle.std.proofs.lemmas.List.{length-take-le, take-take}
 use Rattle.std.proofs.Math.Nat.{mul-le-mul_right, mul-div_cancel}
-use Rattle.byteorder.specs.Endian.{big_number}
 use Rattle.alter_bytes.proofs.Fields.{same_number}
 use Rattle.rollback_journal.specs.Playback.{file_page}
 use Rattle.rollback_journal.proofs.FilePages.{page_end, part_of_front}

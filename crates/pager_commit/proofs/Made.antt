@@ -1,5 +1,5 @@
 -- What was prepared is the plan of the pages.
-use Rattle.std.proofs.Common.{◌≡◌, ℕ, ◌+◌, ◌*◌, ◌^◌, ◌≤◌, List, ◌++◌, length, length-append, take, map, replicate, Option, Some, true, ap, ap₂, ◌∙◌, subst, sym, arith}
+use Rattle.std.proofs.Common.{◌≡◌, ℕ, ◌+◌, ◌*◌, ◌≤◌, List, ◌++◌, length, length-append, take, map, replicate, Option, Some, true, ap, ap₂, ◌∙◌, subst, sym, arith}
 use Rattle.std.proofs.lemmas.List.{length-map, length-replicate}
 use Rattle.std.specs.List.{flat_map}
 use Rattle.common_laws.proofs.Options.{if_some}
@@ -9,7 +9,7 @@ use Rattle.rollback_journal.specs.Records.{Entry}
 use Rattle.pager_core.specs.declared.pages.Pages.{Pages}
 use Rattle.pager_core.specs.Pages.{before_of, is_changed, shape_of}
 use Rattle.pager_core.specs.Shape.{IsShape}
-use Rattle.pager_commit.specs.Plan.{IsPlanOf, entry_at, header_for, journaled, numbers_upto, originals, record_of}
+use Rattle.pager_commit.specs.Plan.{IsPlanOf, entry_at, header_for, numbers_upto, originals, record_of}
 use Rattle.pager_commit.specs.Records.{HasRecords}
 use Rattle.pager_commit.proofs.Own.{EndsSmall, few_numbers, front_ends, journal_ends, journal_small, length-bytes_of, length-records, own}
 

@@ -1,7 +1,7 @@
 -- A journal as it is made here is hot, and reads back to its records.
-use Rattle.std.proofs.Common.{◌≡◌, ℕ, zero, suc, ◌+◌, ◌-◌, ◌*◌, ◌/◌, ◌%◌, ◌^◌, ◌<◌, ◌≤◌, ◌==◌, Bool, true, false, ◌&&◌, if◌then◌else◌, List, [], ◌∷◌, ◌++◌, length, length-append, take, drop, replicate, nat_lt, nat_le, not, Option, Some, None, refl, sym, ap, ap₂, ◌∙◌, subst, append-nil, append_assoc, arith}
-use Rattle.std.proofs.lemmas.Bool.{and_from, and_right, eq-eqb, le-leb, le-ltb, ne_eqb}
-use Rattle.std.proofs.lemmas.List.{drop_all, drop_at, length-replicate, take_at, take-append-le}
+use Rattle.std.proofs.Common.{◌≡◌, ℕ, zero, suc, ◌+◌, ◌-◌, ◌/◌, ◌^◌, ◌<◌, ◌≤◌, ◌==◌, Bool, true, false, ◌&&◌, if◌then◌else◌, List, [], ◌∷◌, ◌++◌, length, length-append, take, drop, replicate, nat_lt, nat_le, not, Option, Some, None, refl, sym, ap, ap₂, ◌∙◌, subst, append-nil, append_assoc, arith}
+use Rattle.std.proofs.lemmas.Bool.{and_from, and_right, le-leb, le-ltb, ne_eqb}
+use Rattle.std.proofs.lemmas.List.{drop_all, drop_at, length-replicate, take_at}
 use lib.Count.{ones}
 use Rattle.std.specs.List.{AllByRecursion, flat_map}
 use Rattle.byteorder.specs.Endian.{big_bytes, big_number}
@@ -11,7 +11,7 @@ use Rattle.rollback_journal.specs.declared.header.Header.{Header}
 use Rattle.rollback_journal.specs.declared.heat.Heat.TheVariants.{Hot}
 use Rattle.rollback_journal.specs.Checksum.{checksum_of, sum_back}
 use Rattle.rollback_journal.specs.Header.{bytes_of, fields_of, has_magic, header_of, is_allowed, is_size, magic, number_at}
-use Rattle.rollback_journal.specs.Heat.{has_records, heat_of, heat_with, live_header, names_super}
+use Rattle.rollback_journal.specs.Heat.{has_records, heat_of, heat_with, names_super}
 use Rattle.rollback_journal.specs.Records.{Entry, entries_from, entries_of, is_segment, next_sector, record_len, records_in}
 use Rattle.pager_commit.proofs.Written.{IsRecordOf, record_read}
 use Rattle.pager_commit.specs.Plan.{journal_of, record_of}

@@ -1,17 +1,16 @@
 -- What both files stand for while the journal of the changed pages is whole: the pages before the changes.
-use Rattle.std.proofs.Common.{◌≡◌, inl, inr, ⊎_elim, ℕ, zero, suc, ◌+◌, ◌-◌, ◌*◌, ◌^◌, ◌<◌, ◌≤◌, Bool, true, false, if◌then◌else◌, List, [], ◌∷◌, ◌++◌, length, length-append, map, drop, nat_lt, ◌||◌, Option, Some, None, refl, sym, ap, ap₂, ◌∙◌, subst, arith}
+use Rattle.std.proofs.Common.{◌≡◌, ⊎_elim, ℕ, zero, suc, ◌-◌, ◌*◌, ◌^◌, ◌≤◌, Bool, true, false, if◌then◌else◌, List, [], ◌∷◌, ◌++◌, length, length-append, map, drop, nat_lt, ◌||◌, Some, refl, sym, ap, ◌∙◌, subst, arith}
 use Rattle.std.proofs.lemmas.Bool.{le-ltb}
 use Rattle.std.proofs.lemmas.List.{length-map, map-append}
 use Rattle.std.proofs.Math.Nat.{mul-le-mul_right}
 use Rattle.std.specs.List.{AllByRecursion}
 use Rattle.alter_disk.specs.Files.{Files}
 use Rattle.rollback_journal.specs.declared.header.Header.{Header}
-use Rattle.rollback_journal.specs.declared.heat.Heat.TheVariants.{Cold}
 use Rattle.rollback_journal.specs.Header.{has_magic, is_size}
 use Rattle.rollback_journal.specs.Heat.{heat_of}
 use Rattle.rollback_journal.specs.Records.{Entry, entries_of}
 use Rattle.rollback_journal.specs.Playback.{KeepsUnjournaled, first_missing, played}
-use Rattle.rollback_journal.specs.Standing.{Standing, Stands, is_too_large, standing}
+use Rattle.rollback_journal.specs.Standing.{standing}
 use Rattle.rollback_journal.specs.Recovery.{IsPlayable}
 use Rattle.rollback_journal.proofs.Shut.{stands_cold, stands_kept, stands_played}
 use Rattle.pager_core.specs.declared.pages.Pages.{Pages}
@@ -22,7 +21,7 @@ use Rattle.pager_core.specs.Shape.{IsShape}
 use Rattle.pager_core.proofs.Sound.{page_cases, page_large, page_small}
 use Rattle.pager_core.proofs.WriteLemmas.{length-page}
 use Rattle.pager_commit.specs.Opens.{Opens, image_by}
-use Rattle.pager_commit.specs.Plan.{IsPlanOf, entry_at, header_for, journal_of, journaled, numbers_upto, originals}
+use Rattle.pager_commit.specs.Plan.{IsPlanOf, entry_at, header_for, journaled, numbers_upto, originals}
 use Rattle.pager_commit.specs.Stages.{ColdOr, KeepsUnchanged, Unchanged}
 use Rattle.pager_commit.proofs.Images.{front_image}
 use Rattle.pager_commit.proofs.Own.{few_numbers}

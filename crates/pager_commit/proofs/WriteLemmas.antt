@@ -1,18 +1,18 @@
 -- The changed pages are written, while no other page is lost.
-use Rattle.std.proofs.Common.{◌≡◌, inl, inr, ℕ, zero, suc, ◌+◌, ◌-◌, ◌*◌, ◌≤◌, Bool, true, false, List, length, refl, sym, ap, ◌∙◌, subst, add-one, arith}
+use Rattle.std.proofs.Common.{◌≡◌, inl, inr, ℕ, ◌+◌, ◌-◌, ◌*◌, ◌≤◌, Bool, true, List, length, refl, sym, ap, ◌∙◌, subst, add-one, arith}
 use Rattle.std.proofs.lemmas.Bool.{cases_lt, true≢false}
 use Rattle.alter_disk.specs.declared.disk.Disk.{Ghosts}
-use Rattle.alter_disk.specs.declared.which.Which.TheVariants.{Db, Journal}
+use Rattle.alter_disk.specs.declared.which.Which.TheVariants.{Db}
 use Rattle.alter_disk.specs.Changes.{ChangesOne, Torn}
 use Rattle.alter_disk.specs.Crash.{After}
 use Rattle.alter_disk.specs.Files.{Files}
-use Rattle.alter_disk.specs.Moments.{ChangesFile, Leaves, Reads, Rests}
+use Rattle.alter_disk.specs.Moments.{ChangesFile, Leaves, Reads}
 use Rattle.alter_disk.specs.Rest.{KeepsRest}
 use Rattle.alter_disk.proofs.Moments.{goes_far, started, weaker}
 use Rattle.rollback_journal.proofs.FilePages.{page_beside}
 use Rattle.pager_core.specs.declared.pages.Pages.{Pages}
 use Rattle.pager_core.specs.Pages.{bytes_of, disk_of, is_changed, shape_of, with_disk}
-use Rattle.pager_commit.specs.Stages.{HasExtents, KeepsUnchanged, LosesNone, RestBoth, Unchanged, Writes, WritesPages, written_one, written_upto}
+use Rattle.pager_commit.specs.Stages.{HasExtents, KeepsUnchanged, LosesNone, Unchanged, WritesPages, written_one, written_upto}
 
 module _ (changed : ℕ → Bool) (page : ℕ) where
   pub keeps_all : (old : List ℕ) → KeepsUnchanged changed page old old

@@ -1,5 +1,5 @@
 -- A record that is right is read as its entry.
-use Rattle.std.proofs.Common.{◌≡◌, ℕ, suc, ◌+◌, ◌≤◌, ◌==◌, true, false, List, ◌∷◌, length, take, drop, nat_lt, refl, sym, ap, ap₂, ◌∙◌, arith}
+use Rattle.std.proofs.Common.{◌≡◌, ℕ, suc, ◌+◌, ◌≤◌, ◌==◌, true, false, List, ◌∷◌, length, take, drop, nat_lt, sym, ap, ap₂, ◌∙◌, arith}
 use Rattle.std.proofs.lemmas.Bool.{eq-eqb, le-ltb, ne_eqb}
 use Rattle.rollback_journal.specs.declared.header.Header.{Header}
 use Rattle.rollback_journal.specs.Checksum.{checksum_of}

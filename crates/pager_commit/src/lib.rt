@@ -5,6 +5,8 @@ mod commit;
 mod plan;
 mod records;
 mod stages;
+#[cfg(test)]
+mod tests;
 mod write;
 
 pub use plan::Plan;

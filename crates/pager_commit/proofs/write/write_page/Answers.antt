@@ -1,4 +1,4 @@
-use Rattle.std.proofs.Common.{◌≡◌, ℕ, ◌-◌, ◌*◌, List, sym, ◌∙◌, subst}
+use Rattle.std.proofs.Common.{◌-◌, ◌*◌, sym, ◌∙◌, subst}
 use Rattle.alter_disk.specs.Changes.{Torn}
 use Rattle.pager_core.specs.Pages.{is_changed, shape_of}
 use Rattle.pager_commit.specs.Stages.{KeepsUnchanged}
