@@ -1,5 +1,5 @@
 -- The end of a recovery: the database is cut to its size, and the journal's magic is zeroed.
-use Rattle.std.proofs.Common.{◌≡◌, ⊎_elim, ℕ, ◌*◌, true, false, List, take, Option, Some, IfSome, refl, sym, ap, ap₂, ◌∙◌, subst}
+use Rattle.std.proofs.Common.{◌≡◌, ⊎_elim, if◌then◌else◌, ℕ, ◌*◌, true, false, List, take, Option, Some, IfSome, refl, sym, ap, ap₂, ◌∙◌, subst}
 use Rattle.alter_disk.specs.declared.disk.Disk.{Ghosts}
 use Rattle.alter_disk.specs.declared.which.Which.TheVariants.{Db, Journal}
 use Rattle.alter_disk.specs.Files.{Files}
@@ -9,13 +9,13 @@ use Rattle.alter_disk.specs.Moments.{AtRest, Leaves, Reads, ReadsQuietly, Rests,
 use Rattle.alter_disk.proofs.Moments.{weaker}
 use Rattle.alter_disk.proofs.Pending.{cut_whole}
 use Rattle.rollback_journal.specs.declared.header.Header.{Header}
-use Rattle.rollback_journal.specs.declared.heat.Heat.TheVariants.{Cold}
+use Rattle.rollback_journal.specs.declared.heat.Heat.TheVariants.{Cold, Hot}
 use Rattle.rollback_journal.specs.Header.{no_magic}
 use Rattle.rollback_journal.specs.Heat.{heat_of}
 use Rattle.rollback_journal.specs.Records.{entries_of}
 use Rattle.rollback_journal.specs.Playback.{played, KeepsUnjournaled}
 use Rattle.rollback_journal.specs.Standing.{Stands, standing}
-use Rattle.rollback_journal.specs.Recovery.{IsPlayable, Recovered, is_hot, shut}
+use Rattle.rollback_journal.specs.Recovery.{IsPlayable, Recovered, is_hot, recovered, recovered_as, shut}
 use Rattle.rollback_journal.specs.Replay.{WasPlayed}
 use Rattle.rollback_journal.proofs.Unjournaled.{keeps_on, keeps_cut}
 use Rattle.rollback_journal.proofs.Shut.{cold_without_magic, stands_played, stands_kept, stands_cold, torn_magic}
@@ -24,6 +24,17 @@ use Rattle.rollback_journal.proofs.Playing.{kept_stands}
 -- eight zeros at its start make a journal cold
 pub cold_shut : (journal : List ℕ) → heat_of (shut journal) ≡ Cold
 cold_shut journal = cold_without_magic (shut journal) refl
+
+-- a journal that can be played does not stay as it is
+pub played_changes : (f : Files) (h : Header) → IsPlayable f h → recovered f ≡ f → ⊥
+played_changes f h playable same =
+    let bytes = played h.page h.size (entries_of f.journal h) f.db in
+    let one : recovered f ≡ record { db = bytes; journal = shut f.journal } = ap (λ s. recovered_as s f) (stands_played f h playable)
+    ∙ ap (λ heat. record { db = bytes; journal = if is_hot heat then shut f.journal else f.journal }) playable.hot in
+    not_cold (sym (cold_shut f.journal) ∙ ap (λ (g : Files). heat_of g.journal) (sym one ∙ same) ∙ playable.hot)
+  where
+    not_cold : Cold ≡ Hot h → ⊥
+    not_cold e = cc
 
 -- what holds of a told value
 told_so : {A : Type 0} (P : A → Type 0) (o : Option A) (a : A) → o ≡ Some a → P a → IfSome o P

@@ -15,7 +15,7 @@ use Rattle.rollback_journal.specs.Header.{no_magic}
 use Rattle.rollback_journal.specs.Heat.{heat_of}
 use Rattle.rollback_journal.specs.Records.{Entry, entries_of}
 use Rattle.rollback_journal.specs.Playback.{last_entry, first_missing}
-use Rattle.rollback_journal.specs.Standing.{is_too_large, standing, Stands, IsSuper, IsShort, IsTooLarge}
+use Rattle.rollback_journal.specs.Standing.{Standing, is_too_large, standing, Stands, IsSuper, IsShort, IsTooLarge}
 
 -- of pages with a mark each, page i + 1 at index i, those are marked that have an entry, and those that were
 abbrev pub Marks : List Entry → List Bool → List Bool → Type 0
@@ -55,6 +55,18 @@ is_hot (Hot h) = true
 -- a journal whose first eight bytes are zeros
 abbrev pub shut : List ℕ → List ℕ
 shut journal = overwritten journal 0 no_magic
+
+-- what a recovery makes of two files that stand for this
+abbrev pub recovered_as : Standing → Files → Files
+recovered_as (Stands bytes) f = record { db = bytes; journal = if is_hot (heat_of f.journal) then shut f.journal else f.journal }
+recovered_as IsSuper f = f
+recovered_as IsTooLarge f = f
+recovered_as (IsShort page) f = f
+
+-- The files that a recovery leaves: the bytes that they stand for, and eight zeros in place of the magic of a hot journal that
+-- was played. Files that are refused, and those with a cold journal, stay as they are.
+abbrev pub recovered : Files → Files
+recovered f = recovered_as (standing f) f
 
 -- What a recovery leaves of files that stood for these bytes: the database has them, nothing is pending, and the journal is cold.
 -- Where it was hot, it was played, and eight zeros stand in place of its magic; else both files are as they were.

@@ -1,10 +1,9 @@
 //! Recovering a database from its journal.
 ghost use Rattle.std.specs.Prelude.{◌≡◌, true, Some, IfOk, IfErr};
 ghost use Rattle.alter_disk.specs.Files.{Files};
-ghost use Rattle.alter_disk.specs.Moments.{AtRest, Leaves};
-ghost use Rattle.alter_disk.specs.Moments.{Stays};
+ghost use Rattle.alter_disk.specs.Moments.{AtRest, Leaves, ReadsQuietly, Stays};
 ghost use Rattle.rollback_journal.specs.Standing.{standing};
-ghost use Rattle.rollback_journal.specs.Recovery.{IsRefusal, Recovered, Unwritten, HasCauses};
+ghost use Rattle.rollback_journal.specs.Recovery.{IsRefusal, Recovered, Unwritten, HasCauses, recovered};
 
 use crate::fault::RecoverFault;
 use crate::heat::{Heat, hot};
@@ -23,6 +22,7 @@ pub fn recover<D: Disk>(alloc: Global, disk: &mut D) -> Result<bool, RecoverFaul
     ensures recovered { IfOk result (λ played. (f : Files) → D.files disk.old ≡ Some f → Recovered D.Disk f played disk.new) }
     ensures refused { IfErr result (λ fault. (f : Files) → D.files disk.old ≡ Some f → IsRefusal f fault) }
     ensures unwritten { Unwritten D.Disk disk.old disk.new result }
+    ensures kept { (f : Files) → D.files disk.old ≡ Some f → recovered f ≡ f → ReadsQuietly D.Disk disk.old disk.new }
 
     // A crash at any moment of the call leaves files that stand for the same.
     ensures stops { (f : Files) → D.files disk.old ≡ Some f → Leaves D.Disk disk.old disk.new (λ c. standing c ≡ standing f) }
