@@ -3,6 +3,7 @@ pub mod Cold
 pub mod CommitLemmas
 pub mod Images
 pub mod Made
+pub mod Opened
 pub mod Own
 pub mod RecordLemmas
 pub mod Replayed

@@ -1,5 +1,5 @@
 -- The changed pages are written, while no other page is lost.
-use Rattle.std.proofs.Common.{◌≡◌, inl, inr, ℕ, ◌+◌, ◌-◌, ◌*◌, ◌≤◌, Bool, true, List, length, refl, sym, ap, ◌∙◌, subst, add-one, arith}
+use Rattle.std.proofs.Common.{◌≡◌, inl, inr, ℕ, ◌+◌, ◌-◌, ◌*◌, ◌≤◌, Bool, true, List, length, is_some, refl, sym, ap, ◌∙◌, subst, add-one, arith}
 use Rattle.std.proofs.lemmas.Bool.{cases_lt, true≢false}
 use Rattle.alter_disk.specs.declared.disk.Disk.{Ghosts}
 use Rattle.alter_disk.specs.declared.which.Which.TheVariants.{Db}
@@ -61,6 +61,7 @@ module _ {D : Type 0} (disk : Ghosts D) where
     pub pages : now ≡ with_disk old (disk_of now)
     pub writes : WritesPages disk old n (disk_of now)
     pub rest : KeepsRest disk.label disk.called disk.opened disk.read_faults (disk_of old) (disk_of now)
+    pub telling : is_some (disk.files (disk_of now)) ≡ is_some (disk.files (disk_of old))
     pub faults : disk.write_faults (disk_of now) ≡ disk.write_faults (disk_of old)
     pub extents : HasExtents n old
 
@@ -87,6 +88,7 @@ module _ {D : Type 0} (disk : Ghosts D) where
       stops = started disk (disk_of old) (Unchanged (is_changed old) (shape_of old).page base log);
     };
     rest = record { label = refl; called = refl; opened = refl; other = refl };
+    telling = refl;
     faults = refl;
     extents = λ m from to is. absurd (omega (arith, from, to));
   }
@@ -97,6 +99,7 @@ module _ {D : Type 0} (disk : Ghosts D) where
     pub changes : ChangesFile disk Db (KeepsUnchanged (is_changed mid) (shape_of mid).page) (disk_of mid) (disk_of new)
     pub kept : new ≡ with_disk mid (disk_of new)
     pub rest : KeepsRest disk.label disk.called disk.opened disk.read_faults (disk_of mid) (disk_of new)
+    pub telling : is_some (disk.files (disk_of new)) ≡ is_some (disk.files (disk_of mid))
 
   pub page_written : (n : ℕ) (old mid new : Pages D) → SoFar n old mid → WritesPage (n + 1) mid new → disk.write_faults (disk_of new) ≡ disk.write_faults (disk_of mid)
       → (is_changed mid (n + 1) ≡ true → length (bytes_of mid (n + 1)) ≡ (shape_of mid).page) → SoFar (n + 1) old new
@@ -123,6 +126,7 @@ module _ {D : Type 0} (disk : Ghosts D) where
           opened = page.rest.opened ∙ so.rest.opened;
           other = page.rest.other ∙ so.rest.other;
         };
+        telling = page.telling ∙ so.telling;
         faults = faults ∙ so.faults;
         extents = let Fits : Pages D → Type 0 = λ p. is_changed p (n + 1) ≡ true → length (bytes_of p (n + 1)) ≡ (shape_of p).page in
             let fits : Fits (with_disk old (disk_of mid)) = subst Fits so.pages extent in

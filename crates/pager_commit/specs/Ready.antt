@@ -57,3 +57,10 @@ pub record StopsBetween {D : Type 0} (disk : Ghosts D) (before after : List (Lis
   pub whole : (mid ≡ new) ⊎ RestBoth disk base plan mid
   pub first : Leaves disk old mid (Opens before)
   pub then_ : Leaves disk mid new (λ c. Opens before c ⊎ Opens after c)
+
+-- the pages of an opened database: both its files are told, nothing is pending, the journal is cold, and the pages are over the database
+pub record IsOpened {D : Type 0} (disk : Ghosts D) (pages : Pages D) (base log : List ℕ) : Type 0 where
+  pub told : disk.files (disk_of pages) ≡ Some (record { db = base; journal = log })
+  pub rests : RestBoth disk base log (disk_of pages)
+  pub cold : heat_of log ≡ Cold
+  pub over : IsOverDatabase disk pages base

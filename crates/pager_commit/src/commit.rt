@@ -1,5 +1,5 @@
 //! The stages in their order.
-ghost use Rattle.std.specs.Prelude.{◌≡◌, ◌≤◌, ◌^◌, ◌++◌, true, List, ℕ, length, take, drop, OnOk};
+ghost use Rattle.std.specs.Prelude.{◌≡◌, ◌≤◌, ◌^◌, ◌++◌, true, List, ℕ, length, take, drop, OnOk, is_some};
 ghost use Rattle.alter_disk.specs.Faults.{HasCause};
 ghost use Rattle.alter_disk.specs.Moments.{Leaves};
 ghost use Rattle.alter_disk.specs.Rest.{KeepsRest};
@@ -25,6 +25,7 @@ pub(crate) fn write_all<D: Disk>(journal: &[u8], pages: &mut Pages<D>) -> Result
     ensures stops { (base log : List ℕ) → RestBoth D.Disk base log (disk_of pages.old) → heat_of log ≡ Cold → GoesThrough D.Disk pages.old base journal.now (disk_of pages.new) }
     ensures kept { pages.new ≡ with_disk pages.old (disk_of pages.new) }
     ensures rest { KeepsRest D.label D.called D.opened D.read_faults (disk_of pages.old) (disk_of pages.new) }
+    ensures telling { is_some (D.files (disk_of pages.new)) ≡ is_some (D.files (disk_of pages.old)) }
     ensures cause { HasCause (D.write_faults (disk_of pages.old)) (D.write_faults (disk_of pages.new)) result }
 {
     open_journal(pages.disk(), journal)?;
@@ -40,6 +41,7 @@ fn open_journal<D: Disk>(disk: &mut D, journal: &[u8]) -> Result<(), Failed>
     ensures done { OnOk result ((base log : List ℕ) → RestBoth D.Disk base log disk.old → RestBoth D.Disk base journal.now disk.new) }
     ensures stops { (base log : List ℕ) → RestBoth D.Disk base log disk.old → heat_of log ≡ Cold → Leaves D.Disk disk.old disk.new (ColdOr base journal.now) }
     ensures rest { KeepsRest D.label D.called D.opened D.read_faults disk.old disk.new }
+    ensures telling { is_some (D.files disk.new) ≡ is_some (D.files disk.old) }
     ensures cause { HasCause (D.write_faults disk.old) (D.write_faults disk.new) result }
 {
     shut(disk)?;

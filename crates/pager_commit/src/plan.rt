@@ -1,5 +1,5 @@
 //! What is to be committed.
-ghost use Rattle.std.specs.Prelude.{◌≡◌, true, List, ℕ, Some, IfOk, IsErrOf, OnErr, OnOk};
+ghost use Rattle.std.specs.Prelude.{◌≡◌, true, List, ℕ, Some, IfOk, IsErrOf, OnErr, OnOk, is_some};
 ghost use Rattle.alter_disk.specs.Faults.{HasCause};
 ghost use Rattle.alter_disk.specs.Rest.{KeepsRest};
 ghost use Rattle.alter_disk.specs.Files.{Files};
@@ -58,6 +58,7 @@ impl Plan {
         ensures settled { OnOk result (SettlesChanges D.Disk (with_disk pages.old (disk_of pages.new)) pages.new) }
         ensures kept { OnErr result (pages.new ≡ with_disk pages.old (disk_of pages.new)) }
         ensures rest { KeepsRest D.label D.called D.opened D.read_faults (disk_of pages.old) (disk_of pages.new) }
+        ensures telling { is_some (D.files (disk_of pages.new)) ≡ is_some (D.files (disk_of pages.old)) }
         ensures cause { HasCause (D.write_faults (disk_of pages.old)) (D.write_faults (disk_of pages.new)) result }
     {
         write_all(self.journal.as_slice(), pages)?;

@@ -1,5 +1,5 @@
 //! The stages of a commit. Each is made durable before the next one begins.
-ghost use Rattle.std.specs.Prelude.{◌≡◌, ◌+◌, ◌^◌, ◌≤◌, ◌++◌, true, List, ℕ, length, drop, OnOk};
+ghost use Rattle.std.specs.Prelude.{◌≡◌, ◌+◌, ◌^◌, ◌≤◌, ◌++◌, true, List, ℕ, length, drop, OnOk, is_some};
 ghost use Rattle.alter_disk.specs.Faults.{HasCause};
 ghost use Rattle.alter_disk.specs.Moments.{Leaves};
 ghost use Rattle.alter_disk.specs.Rest.{KeepsRest};
@@ -19,6 +19,7 @@ pub(crate) fn shut<D: Disk>(disk: &mut D) -> Result<(), Failed>
     ensures done { OnOk result ((db journal : List ℕ) → RestBoth D.Disk db journal disk.old → RestBoth D.Disk db no_magic disk.new) }
     ensures stops { (db journal : List ℕ) → RestBoth D.Disk db journal disk.old → heat_of journal ≡ Cold → Leaves D.Disk disk.old disk.new (ColdBeside db) }
     ensures rest { KeepsRest D.label D.called D.opened D.read_faults disk.old disk.new }
+    ensures telling { is_some (D.files disk.new) ≡ is_some (D.files disk.old) }
     ensures cause { HasCause (D.write_faults disk.old) (D.write_faults disk.new) result }
 {
     cut_and_sync(disk, Which::Journal, 0)?;
@@ -32,6 +33,7 @@ pub(crate) fn fill<D: Disk>(disk: &mut D, rest: &[u8]) -> Result<(), Failed>
     ensures done { OnOk result ((db : List ℕ) → RestBoth D.Disk db no_magic disk.old → RestBoth D.Disk db (no_magic ++ rest.now) disk.new) }
     ensures stops { (db : List ℕ) → RestBoth D.Disk db no_magic disk.old → Leaves D.Disk disk.old disk.new (ColdBeside db) }
     ensures rest { KeepsRest D.label D.called D.opened D.read_faults disk.old disk.new }
+    ensures telling { is_some (D.files disk.new) ≡ is_some (D.files disk.old) }
     ensures cause { HasCause (D.write_faults disk.old) (D.write_faults disk.new) result }
 {
     write_and_sync(disk, Which::Journal, 8, rest)
@@ -44,6 +46,7 @@ pub(crate) fn gate<D: Disk>(disk: &mut D, key: &[u8]) -> Result<(), Failed>
     ensures done { OnOk result ((db journal : List ℕ) → RestBoth D.Disk db journal disk.old → RestBoth D.Disk db (key.now ++ drop 8 journal) disk.new) }
     ensures stops { (db journal : List ℕ) → RestBoth D.Disk db journal disk.old → Leaves D.Disk disk.old disk.new (ColdOr db (magic ++ drop 8 journal)) }
     ensures rest { KeepsRest D.label D.called D.opened D.read_faults disk.old disk.new }
+    ensures telling { is_some (D.files disk.new) ≡ is_some (D.files disk.old) }
     ensures cause { HasCause (D.write_faults disk.old) (D.write_faults disk.new) result }
 {
     write_and_sync(disk, Which::Journal, 0, key)

@@ -1,5 +1,5 @@
 //! The changed pages are written to the database.
-ghost use Rattle.std.specs.Prelude.{◌≡◌, ◌≤◌, true, List, ℕ, length, OnOk};
+ghost use Rattle.std.specs.Prelude.{◌≡◌, ◌≤◌, true, List, ℕ, length, OnOk, is_some};
 ghost use Rattle.alter_disk.specs.Faults.{HasCause};
 ghost use Rattle.alter_disk.specs.Moments.{ChangesFile, Leaves, Reads, Rests};
 ghost use Rattle.alter_disk.specs.Crash.{NoMore};
@@ -19,6 +19,7 @@ pub(crate) fn write_pages<D: Disk>(pages: &mut Pages<D>) -> Result<(), Failed>
     ensures stops { LosesNone D.Disk pages.old (disk_of pages.new) }
     ensures kept { pages.new ≡ with_disk pages.old (disk_of pages.new) }
     ensures rest { KeepsRest D.label D.called D.opened D.read_faults (disk_of pages.old) (disk_of pages.new) }
+    ensures telling { is_some (D.files (disk_of pages.new)) ≡ is_some (D.files (disk_of pages.old)) }
     ensures cause { HasCause (D.write_faults (disk_of pages.old)) (D.write_faults (disk_of pages.new)) result }
 {
     write_changed(pages)?;
@@ -31,6 +32,7 @@ fn sync_database<D: Disk>(disk: &mut D) -> Result<(), Failed>
     ensures done { OnOk result ((base log : List ℕ) → Reads D.Disk Which.Db base disk.old → Rests D.Disk Which.Journal log disk.old → RestBoth D.Disk base log disk.new) }
     ensures stops { Leaves D.Disk disk.old disk.new (D.may_leave disk.old) }
     ensures rest { KeepsRest D.label D.called D.opened D.read_faults disk.old disk.new }
+    ensures telling { is_some (D.files disk.new) ≡ is_some (D.files disk.old) }
     ensures cause { HasCause (D.write_faults disk.old) (D.write_faults disk.new) result }
 {
     disk.sync(Which::Db)
@@ -44,6 +46,7 @@ fn write_changed<D: Disk>(pages: &mut Pages<D>) -> Result<(), Failed>
     ensures stops { LosesNone D.Disk pages.old (disk_of pages.new) }
     ensures kept { pages.new ≡ with_disk pages.old (disk_of pages.new) }
     ensures rest { KeepsRest D.label D.called D.opened D.read_faults (disk_of pages.old) (disk_of pages.new) }
+    ensures telling { is_some (D.files (disk_of pages.new)) ≡ is_some (D.files (disk_of pages.old)) }
     ensures cause { HasCause (D.write_faults (disk_of pages.old)) (D.write_faults (disk_of pages.new)) result }
 {
     for n in 0..pages.count() {
@@ -62,6 +65,7 @@ fn write_page<D: Disk>(pages: &mut Pages<D>, n: u32) -> Result<(), Failed>
     ensures changes { ChangesFile D.Disk Which.Db (KeepsUnchanged (is_changed pages.old) (shape_of pages.old).page) (disk_of pages.old) (disk_of pages.new) }
     ensures kept { pages.new ≡ with_disk pages.old (disk_of pages.new) }
     ensures rest { KeepsRest D.label D.called D.opened D.read_faults (disk_of pages.old) (disk_of pages.new) }
+    ensures telling { is_some (D.files (disk_of pages.new)) ≡ is_some (D.files (disk_of pages.old)) }
     ensures cause { HasCause (D.write_faults (disk_of pages.old)) (D.write_faults (disk_of pages.new)) result }
 {
     if pages.changed(n) {

@@ -13,7 +13,7 @@ returns-in_err-write_page-clause-stops g c = page_lost g.D.Disk c.loop-n.n c.arg
 pub loop-n-preserved : goal.loop-n-preserved
 loop-n-preserved g c = (
   page_written g.D.Disk c.loop-n.n c.args.pages.now c.loop-n.pages c.write_page.new.pages c.loop-n.invariant.0
-      (record { written = c.in_ok-write_page.ensures.written; changes = c.write_page.ensures.changes; kept = c.write_page.ensures.kept; rest = c.write_page.ensures.rest })
+      (record { written = c.in_ok-write_page.ensures.written; changes = c.write_page.ensures.changes; kept = c.write_page.ensures.kept; rest = c.write_page.ensures.rest; telling = c.write_page.ensures.telling })
       c.in_ok-write_page.ensures.cause.only c.write_page.ensures.extent,
   c.loop-n.invariant.1,
 )
