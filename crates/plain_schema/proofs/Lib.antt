@@ -1,0 +1,11 @@
+pub mod Added
+pub mod CommittedLemmas
+pub mod FormLemmas
+pub mod Held
+pub mod ImageLemmas
+pub mod PageLemmas
+pub mod ReadyLemmas
+pub mod Retold
+pub mod Stepped
+pub mod Tables
+pub mod Written
