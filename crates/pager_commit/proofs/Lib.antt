@@ -12,4 +12,3 @@ pub mod StageLemmas
 pub mod Standings
 pub mod ThroughLemmas
 pub mod WriteLemmas
-pub mod Written

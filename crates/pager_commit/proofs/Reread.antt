@@ -13,7 +13,7 @@ use Rattle.rollback_journal.specs.Checksum.{checksum_of, sum_back}
 use Rattle.rollback_journal.specs.Header.{bytes_of, fields_of, has_magic, header_of, is_allowed, is_size, magic, number_at}
 use Rattle.rollback_journal.specs.Heat.{has_records, heat_of, heat_with, names_super}
 use Rattle.rollback_journal.specs.Records.{Entry, entries_from, entries_of, is_segment, next_sector, record_len, records_in}
-use Rattle.pager_commit.proofs.Written.{IsRecordOf, record_read}
+use Rattle.rollback_journal.proofs.Written.{IsRecordOf, record_read}
 use Rattle.pager_commit.specs.Plan.{journal_of, record_of}
 use Rattle.pager_commit.proofs.Own.{length-bytes_of, length-record}
 

@@ -7,3 +7,4 @@ pub mod FilePages
 pub mod Shut
 pub mod Told
 pub mod Unjournaled
+pub mod Written

@@ -6,6 +6,8 @@ mod cursor;
 mod fault;
 mod header;
 mod heat;
+#[cfg(test)]
+mod long_tests;
 mod playback;
 mod reads;
 mod record;

@@ -103,7 +103,7 @@ const HALF_RIGHT: [Part; 3] = [
 ];
 
 /// The parts of a journal beside `DAMAGED`, the answer, and the blocks of the database afterwards.
-const CASES: [(&str, &[Part], Answer, &[u8]); 16] = [
+const CASES: [(&str, &[Part], Answer, &[u8]); 17] = [
     ("wrong checksum", &HALF_RIGHT, Answer::Played, &[1, 9]),
     (
         "no record",
@@ -207,6 +207,18 @@ const CASES: [(&str, &[Part], Answer, &[u8]); 16] = [
         ],
         Answer::Played,
         &[7, 8],
+    ),
+    (
+        "a later header without its last byte",
+        &[
+            Part::Head(1, 0, 2, 512),
+            Part::Record(1, 7, 512, 14),
+            Part::Record(0, 0x55, 496, 0),
+            Part::Magic,
+            Part::Record(1, 0, 11, 0),
+        ],
+        Answer::Played,
+        &[7, 2],
     ),
     (
         "an empty one between",
