@@ -1,0 +1,9 @@
+pub mod Carried
+pub mod Fronts
+pub mod Headers
+pub mod Holding
+pub mod Images
+pub mod Openings
+pub mod Readings
+pub mod Recoveries
+pub mod Staging
