@@ -47,6 +47,10 @@ module _ {D : Type 0} where
   abbrev pub KeepsNoMore : Pages D → Pages D → Type 0
   KeepsNoMore old new = KeepsAll old.kept new.kept
 
+  -- what is kept of every other page is the same
+  abbrev pub KeepsOthers : ℕ → Pages D → Pages D → Type 0
+  KeepsOthers n old new = (m : ℕ) → m ≢ n → slot_of new.kept m ≡ slot_of old.kept m
+
   -- a number of a page, from 1
   abbrev pub IsPage : Pages D → ℕ → Type 0
   IsPage pages n = (1 ≤ n) × (n ≤ (shape_of pages).count)

@@ -6,7 +6,7 @@ ghost use Rattle.alter_disk.specs.Rest.{KeepsRest};
 ghost use Rattle.alter_disk.specs.Moments.{ChangesFile, ReadsQuietly};
 ghost use Rattle.alter_disk.specs.Uses.{ReadFailed};
 ghost use Rattle.pager_core.specs.Shape.{IsShape};
-ghost use Rattle.pager_core.specs.Pages.{ChangesPage, ForgetsChanges, IsPage, KeepsKnown, KeepsNoMore, SettlesChanges, StayAll, before_of, bytes_of, dirty_of, disk_of, is_changed, page_bytes, place_of, shape_of, shown, unread_pages, with_disk};
+ghost use Rattle.pager_core.specs.Pages.{ChangesPage, ForgetsChanges, IsPage, KeepsKnown, KeepsNoMore, KeepsOthers, SettlesChanges, StayAll, before_of, bytes_of, dirty_of, disk_of, is_changed, page_bytes, place_of, shape_of, shown, unread_pages, with_disk};
 ghost use Rattle.pager_core.specs.contracts.pages.Pages.{the_row};
 ghost use Rattle.std.specs.Borrow.{Lends, follows_so, sem};
 ghost use mathlib.Core.Option.{none};
@@ -89,6 +89,7 @@ impl<D: Disk> Pages<D> {
         ensures there { OnOk result (IsSome (shown self.new n)) }
         ensures stay { StayAll D.Disk self.old self.new }
         ensures none { OnErr result (KeepsNoMore self.old self.new) }
+        ensures others { KeepsOthers n self.old self.new }
         ensures again { IsSome (shown self.old n) → self.new ≡ self.old }
         ensures failed { IsErrOf result PageError.Failed → ReadFailed D.Disk (disk_of self.old) (disk_of self.new) }
     {
@@ -121,7 +122,8 @@ impl<D: Disk> Pages<D> {
         ensures* after { sem 𝓛 (follows_so (the_row D.row) (the_row D.row) self.entry.ghost_name none (λ _ _. ⊤)
             (λ now. StayAll D.Disk self.old now × IfOk result (λ bytes. (shown now n ≡ Some bytes.now) × (length bytes.now ≡ (shape_of now).page))
             × OnErr result (KeepsNoMore self.old now) × (IsSome (shown self.old n) → now ≡ self.old)
-            × (IsErrOf result PageError.Failed → ReadFailed D.Disk (disk_of self.old) (disk_of now)))) }
+            × (IsErrOf result PageError.Failed → ReadFailed D.Disk (disk_of self.old) (disk_of now))
+            × KeepsOthers n self.old now)) }
     {
         self.load(n)?;
         Ok(self.loaded(n))
@@ -135,6 +137,7 @@ impl<D: Disk> Pages<D> {
         ensures changed { OnOk result (ChangesPage D.Disk n at bytes.now self.old self.new) }
         ensures stay { OnErr result (StayAll D.Disk self.old self.new) }
         ensures none { OnErr result (KeepsNoMore self.old self.new) }
+        ensures others { KeepsOthers n self.old self.new }
         ensures failed { IsErrOf result PageError.Failed → ReadFailed D.Disk (disk_of self.old) (disk_of self.new) }
     {
         let room = self.kept.room_for(n)?;
