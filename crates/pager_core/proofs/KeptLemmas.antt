@@ -1,15 +1,14 @@
 -- What is kept of the pages after a place is written, added, forgotten or settled.
-use Rattle.std.proofs.Common.{◌≡◌, ℕ, zero, suc, ◌+◌, ◌<◌, ◌≤◌, inl, inr, List, [], ◌∷◌, ◌++◌, length, length-append, take, drop, map, set, get_or, refl, sym, ap, ◌∙◌, subst, arith, true, Some, None, IsSome}
-use Rattle.std.proofs.lemmas.Bool.{cases_eq, cases_lt}
+use Rattle.std.proofs.Common.{◌≡◌, ℕ, zero, suc, ◌+◌, ◌<◌, ◌≤◌, inl, inr, List, [], ◌∷◌, ◌++◌, length, take, drop, map, set, get_or, refl, sym, ap, ◌∙◌, subst, arith, Some, None}
+use Rattle.std.proofs.lemmas.Bool.{cases_lt}
 use Rattle.std.proofs.lemmas.List.Edits.{map_over_more}
-use Rattle.std.proofs.lemmas.List.{get_or-set_same, get_or-set_other, get_or-take, get_or_past, length-map, length-set, length-take}
+use Rattle.std.proofs.lemmas.List.{get_or-take, length-map, length-set, length-take}
 use Rattle.pager_core.specs.declared.file_shape.FileShape.{FileShape}
 use Rattle.pager_core.specs.declared.slot.Slot.{Slot}
 use Rattle.pager_core.specs.declared.slot.Slot.TheVariants.{Unread, Same, Changed}
-use Rattle.pager_core.specs.Slots.{HasLength, changed_slot, forgotten, is_changed_in, settled, shown_in}
-use Rattle.pager_core.specs.Kept.{AddsUnread, AreKept, Forgets, KeptPages, Puts, Settles, slot_of}
+use Rattle.pager_core.specs.Slots.{HasLength, forgotten, settled}
+use Rattle.pager_core.specs.Kept.{AddsUnread, AreKept, Forgets, KeptPages, Settles, slot_of}
 use Rattle.pager_core.specs.Shape.{IsShape}
-use Rattle.alter_bytes.proofs.Fields.{length-overlaid}
 use Rattle.std.proofs.Math.Nat.{mul-le-mul_right}
 
 -- an element of a list in which each is changed so

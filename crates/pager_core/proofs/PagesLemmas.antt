@@ -1,10 +1,8 @@
 -- What is known of the pages after a page is read or changed.
-use Rattle.std.proofs.Common.{◌≡◌, ℕ, ◌-◌, inl, inr, min, true, false, List, ◌++◌, length, take, drop, replicate, Option, Some, None, is_some, option_map, IsSome, refl, sym, ap, ap₂, ◌∙◌, subst}
+use Rattle.std.proofs.Common.{◌≡◌, ℕ, inl, inr, false, List, Option, Some, None, is_some, option_map, refl, sym, ap, ap₂, ◌∙◌, subst}
 use Rattle.std.proofs.lemmas.Bool.{cases_eq, cases_lt}
-use Rattle.std.proofs.lemmas.List.{take_at, length-take, length-drop}
 use Rattle.std.specs.Option.{option_or}
-use Rattle.alter_bytes.specs.Field.{overlaid}
-use Rattle.alter_disk.specs.Changes.{IfTold, ReadsAt}
+use Rattle.alter_disk.specs.Changes.{IfTold}
 use Rattle.alter_disk.specs.Files.{Files}
 use Rattle.alter_disk.specs.Moments.{ReadsQuietly}
 use Rattle.alter_disk.specs.declared.disk.Disk.{Ghosts}
@@ -13,8 +11,8 @@ use Rattle.pager_core.specs.declared.pages.Pages.{Pages}
 use Rattle.pager_core.specs.declared.slot.Slot.{Slot}
 use Rattle.pager_core.specs.declared.slot.Slot.TheVariants.{Unread, Same, Changed}
 use Rattle.pager_core.specs.Kept.{Forgets, KeepsAll, KeptPages, Puts, Settles, slot_of}
-use Rattle.pager_core.specs.Pages.{ChangesPage, ForgetsChanges, PageStays, SettlesChanges, StayAll, original, padded, page_bytes, shown, told}
-use Rattle.pager_core.specs.Slots.{changed_slot, forgotten, is_changed_in, original_in, settled, shown_in}
+use Rattle.pager_core.specs.Pages.{ForgetsChanges, PageStays, SettlesChanges, StayAll, original, page_bytes, shown, told}
+use Rattle.pager_core.specs.Slots.{forgotten, is_changed_in, original_in, settled, shown_in}
 
 -- a page that is not shown was not read
 pub unread_slot : (slot : Slot) → is_some (shown_in slot) ≡ false → slot ≡ Unread

@@ -1,7 +1,6 @@
 -- What holds of a file that is not refused.
 use Rattle.std.proofs.Common.{⊎_elim, eqb, sym, subst, ◌≡◌, ℕ, ◌*◌, ◌≤◌, Bool, true, false, cond, Option, Some, None, List, [], ◌∷◌, refl, ap, ap₂, ◌∙◌, ◌^◌, arith}
 use Rattle.std.proofs.lemmas.Bool.{not-false, or_cases, or_parts, ltb-false, eqb-false, eqb-true}
-use Rattle.std.proofs.lemmas.Bool.Decides.{nat_tests}
 use Rattle.std.specs.List.{AllByRecursion, find}
 use Rattle.pager_core.specs.Header.{is_page_size, page_count, page_size, schema_format, usable_size}
 use Rattle.pager_core.specs.Refusals.{first_refusal, holds, refusals}
