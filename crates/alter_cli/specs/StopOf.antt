@@ -3,14 +3,8 @@ use Rattle.alter_cli.specs.declared.stop.Stop.{Stop}
 use Rattle.alter_cli.specs.declared.stop.Stop.TheVariants as stops
 use Rattle.alter_cli.specs.declared.script_text.NoText.{NoText}
 use Rattle.alter_cli.specs.declared.script_text.NoText.TheVariants as texts
-use Rattle.alter_cli.specs.declared.file.ReadFault.{ReadFault}
-use Rattle.alter_cli.specs.declared.file.ReadFault.TheVariants as reads
 
 abbrev pub stop_of_text : NoText → Stop
 stop_of_text texts.Memory = stops.Memory
 stop_of_text texts.Failed = stops.Unread
 stop_of_text texts.TooLong = stops.TooLong
-
-abbrev pub stop_of_read : ReadFault → Stop
-stop_of_read reads.Memory = stops.Memory
-stop_of_read reads.Failed = stops.Unreadable

@@ -1,7 +1,6 @@
 //! Verdicts on commands, and their lines.
 ghost use Rattle.std.specs.Prelude.{◌≡◌, ◌++◌, IfOk, OnOk, string_bytes};
-ghost use Rattle.alter_cli.specs.Lines.{verdict_line, verdict_text, refusal_name};
-ghost use Rattle.alter_cli.specs.Outcome.{is_done};
+ghost use Rattle.alter_cli.specs.Verdicts.{is_done, refusal_name, verdict_line, verdict_text};
 
 use std::alloc::{AllocError, Global};
 
