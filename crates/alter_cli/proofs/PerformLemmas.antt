@@ -109,7 +109,7 @@ module _ {Image Command : Type 0} (rules : Rules Image Command) where
       → IsBetween rules t count last c
   between t commands count last c served (inl is) = inl is
   between t commands count last c served (inr is) =
-      let (command, next, new, step, opens) = is in
+      let (command, next, (new, step, opens)) = is in
       inr (new, record { commands = commands; served = served; command = command; next = next; step = step }, opens)
 
   -- the write of a command was torn

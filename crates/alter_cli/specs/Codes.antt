@@ -6,26 +6,26 @@ use Rattle.pager_core.specs.declared.refusal.FileRefusal.TheVariants as refusals
 use Rattle.alter_cli.specs.declared.file_code.FileCode.{FileCode}
 use Rattle.alter_cli.specs.declared.file_code.FileCode.TheVariants.{SuperJournal, JournalTooLarge, ShortJournal, Database, Unbuilt}
 
--- the name of a refusal by the database's bytes
-abbrev pub refusal_name : FileRefusal → List ℕ
-refusal_name refusals.Empty = codes "empty"
-refusal_name refusals.NotDatabase = codes "not-database"
-refusal_name refusals.PageSize = codes "page-size"
-refusal_name refusals.Wal = codes "wal"
-refusal_name refusals.AutoVacuum = codes "auto-vacuum"
-refusal_name refusals.Encoding = codes "encoding"
-refusal_name refusals.SchemaFormat = codes "schema-format"
-refusal_name refusals.Size = codes "size"
-refusal_name refusals.TooLarge = codes "too-large"
-refusal_name (refusals.Corrupt page) = codes "corrupt"
+-- what the line of a refusal by the database's bytes begins with
+abbrev pub refusal_text : FileRefusal → List ℕ
+refusal_text refusals.Empty = codes "file empty"
+refusal_text refusals.NotDatabase = codes "file not-database"
+refusal_text refusals.PageSize = codes "file page-size"
+refusal_text refusals.Wal = codes "file wal"
+refusal_text refusals.AutoVacuum = codes "file auto-vacuum"
+refusal_text refusals.Encoding = codes "file encoding"
+refusal_text refusals.SchemaFormat = codes "file schema-format"
+refusal_text refusals.Size = codes "file size"
+refusal_text refusals.TooLarge = codes "file too-large"
+refusal_text (refusals.Corrupt page) = codes "file corrupt"
 
--- the name of a code
-abbrev pub code_name : FileCode → List ℕ
-code_name SuperJournal = codes "super-journal"
-code_name JournalTooLarge = codes "journal-too-large"
-code_name (ShortJournal page) = codes "short-journal"
-code_name (Database refusal) = refusal_name refusal
-code_name Unbuilt = codes "unbuilt"
+-- what the line of a code begins with
+abbrev pub code_text : FileCode → List ℕ
+code_text SuperJournal = codes "file super-journal"
+code_text JournalTooLarge = codes "file journal-too-large"
+code_text (ShortJournal page) = codes "file short-journal"
+code_text (Database refusal) = refusal_text refusal
+code_text Unbuilt = codes "file unbuilt"
 
 -- the page that a refusal by the database's bytes is about
 abbrev pub refusal_page : FileRefusal → Option ℕ
@@ -45,4 +45,4 @@ page_end None = 10 ∷ []
 
 -- the line of a file that is refused
 abbrev pub file_line : FileCode → List ℕ
-file_line code = codes "file " ++ code_name code ++ page_end (code_page code)
+file_line code = code_text code ++ page_end (code_page code)

@@ -81,6 +81,10 @@ GaveLines Sunk given now (Err Unprinted) =
     × WroteFront (given ++ verdict_lines 1 verdicts) (verdict_line (1 + length verdicts) verdict) (Some now))
 GaveLines Sunk given now (Err stop) = (verdicts : List Verdict) × (now ≡ given ++ verdict_lines 1 verdicts)
 
+-- a sink that had `given`, where it is told, has the lines of the verdicts as well
+abbrev pub HasLines : Option (List ℕ) → Option (List ℕ) → List Verdict → Type 0
+HasLines given now verdicts = IfTold given (λ w. now ≡ Some (w ++ verdict_lines 1 verdicts))
+
 module _ {Image Command : Type 0} (rules : Rules Image Command) where
   -- why there is no script, by what the source had and has left
   abbrev pub NoScript : Type 0 → Option (List ℕ) → Option (List ℕ) → Stop → Type 0
@@ -108,10 +112,6 @@ module _ {Image Command : Type 0} (rules : Rules Image Command) where
   NoSession Read Write old new Unwritten = Write × IsLeftAlike old new
   NoSession Read Write old new Memory = IsLeftAlike old new
   NoSession Read Write old new _ = ⊥
-
-  -- a sink that had `given`, where it is told, has the lines of the verdicts as well
-  abbrev pub HasLines : Option (List ℕ) → Option (List ℕ) → List Verdict → Type 0
-  HasLines given now verdicts = IfTold given (λ w. now ≡ Some (w ++ verdict_lines 1 verdicts))
 
   -- These commands were run on an image: the files, read or left by a crash, open to the last image, and the sink has the
   -- lines of the verdicts as well.

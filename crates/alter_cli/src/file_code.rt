@@ -1,6 +1,6 @@
 //! Why a file is refused, and the lines that say so.
 ghost use Rattle.std.specs.Prelude.{◌≡◌};
-ghost use Rattle.alter_cli.specs.Codes.{code_name, code_page, refusal_name, refusal_page};
+ghost use Rattle.alter_cli.specs.Codes.{code_text, code_page, refusal_text, refusal_page};
 
 use pager_core::FileRefusal;
 
@@ -19,21 +19,21 @@ pub enum FileCode {
     Unbuilt,
 }
 
-/// The name of a refusal in the output.
-fn name_of(refusal: FileRefusal) -> &'static str
-    ensures { result.now ≡ refusal_name refusal }
+/// What the line of a refusal begins with.
+fn text_of(refusal: FileRefusal) -> &'static str
+    ensures { result.now ≡ refusal_text refusal }
 {
     match refusal {
-        FileRefusal::Empty => "empty",
-        FileRefusal::NotDatabase => "not-database",
-        FileRefusal::PageSize => "page-size",
-        FileRefusal::Wal => "wal",
-        FileRefusal::AutoVacuum => "auto-vacuum",
-        FileRefusal::Encoding => "encoding",
-        FileRefusal::SchemaFormat => "schema-format",
-        FileRefusal::Size => "size",
-        FileRefusal::TooLarge => "too-large",
-        FileRefusal::Corrupt(_) => "corrupt",
+        FileRefusal::Empty => "file empty",
+        FileRefusal::NotDatabase => "file not-database",
+        FileRefusal::PageSize => "file page-size",
+        FileRefusal::Wal => "file wal",
+        FileRefusal::AutoVacuum => "file auto-vacuum",
+        FileRefusal::Encoding => "file encoding",
+        FileRefusal::SchemaFormat => "file schema-format",
+        FileRefusal::Size => "file size",
+        FileRefusal::TooLarge => "file too-large",
+        FileRefusal::Corrupt(_) => "file corrupt",
     }
 }
 
@@ -48,16 +48,16 @@ fn page_of(refusal: FileRefusal) -> Option<u32>
 }
 
 impl FileCode {
-    /// Its name in the output.
-    pub fn name(self) -> &'static str
-        ensures { result.now ≡ code_name self }
+    /// What its line begins with.
+    pub fn text(self) -> &'static str
+        ensures { result.now ≡ code_text self }
     {
         match self {
-            FileCode::SuperJournal => "super-journal",
-            FileCode::JournalTooLarge => "journal-too-large",
-            FileCode::ShortJournal(_) => "short-journal",
-            FileCode::Database(refusal) => name_of(refusal),
-            FileCode::Unbuilt => "unbuilt",
+            FileCode::SuperJournal => "file super-journal",
+            FileCode::JournalTooLarge => "file journal-too-large",
+            FileCode::ShortJournal(_) => "file short-journal",
+            FileCode::Database(refusal) => text_of(refusal),
+            FileCode::Unbuilt => "file unbuilt",
         }
     }
 

@@ -35,8 +35,7 @@ fn print_code<K: Sink>(out: &mut K, code: FileCode) -> Result<(), Failed>
     ensures front { OnErr result (IfTold (K.written out.old) (λ w. WroteFront w (file_line code) (K.written out.new))) }
     ensures cause { HasCause (K.faults out.old) (K.faults out.new) result }
 {
-    print(out, b"file ")?;
-    print(out, code.name().as_bytes())?;
+    print(out, code.text().as_bytes())?;
     print_page(out, code.page())
 }
 
