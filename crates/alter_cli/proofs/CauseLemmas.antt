@@ -6,13 +6,13 @@ use Rattle.alter_disk.specs.Files.{Files}
 use Rattle.alter_disk.specs.Outside.{Rises}
 use Rattle.alter_cli.specs.declared.status.Status.{Status}
 use Rattle.alter_cli.specs.declared.status.Status.TheVariants as statuses
-use Rattle.alter_cli.specs.declared.verdict.Verdict.{Verdict}
+use Rattle.plain_schema.specs.declared.verdict.Verdict.{Verdict}
 use Rattle.alter_cli.specs.Causes.{CanRun, Completes, RanWhole}
 use Rattle.alter_cli.specs.Ending.{WhereTold}
 use Rattle.alter_cli.specs.Lines.{verdict_lines}
 use Rattle.alter_cli.specs.Left.{Each, Left}
 use Rattle.alter_cli.specs.Outcome.{IsRunStatus, Outcome, Performed, RanAll, run_status}
-use Rattle.alter_cli.specs.Verdicts.{is_done}
+use Rattle.plain_schema.specs.Verdicts.{is_done}
 use Rattle.alter_cli.specs.Rules.{Rules}
 use Rattle.alter_cli.proofs.StatusLemmas.{no_run}
 

@@ -1,8 +1,10 @@
 pub mod CauseLemmas
 pub mod EndLemmas
 pub mod FinishLemmas
+pub mod FirstRun
 pub mod Gave
 pub mod Grown
+pub mod OpenLemmas
 pub mod PerformLemmas
 pub mod Printed
 pub mod Reached

@@ -7,7 +7,7 @@ use Rattle.alter_disk.specs.Changes.{IfTold}
 use Rattle.alter_disk.specs.Outside.{Rises}
 use Rattle.alter_cli.specs.declared.stop.Stop.{Stop}
 use Rattle.alter_cli.specs.declared.stop.Stop.TheVariants.{TooLong, Unspelled, Unread, Unserved, Unreadable, Unwritten, Unprinted, Memory}
-use Rattle.alter_cli.specs.declared.verdict.Verdict.{Verdict}
+use Rattle.plain_schema.specs.declared.verdict.Verdict.{Verdict}
 use Rattle.alter_cli.specs.declared.status.Status.TheVariants as statuses
 use Rattle.alter_cli.specs.Ending.{WhereTold}
 use Rattle.alter_cli.specs.Left.{Each, EachCrash, Left}
@@ -16,7 +16,7 @@ use Rattle.alter_cli.specs.Outcome.{HasRun, IsBetween, IsServed, IsUntouched, Ou
 use Rattle.alter_cli.specs.Rules.{Rules}
 use Rattle.alter_cli.specs.Run.{Run}
 use Rattle.alter_cli.specs.Stops.{HasLines, IsLeftAlike, IsNear, NoScript, NoSession, OpensOf, RanEach, RanSo, RanSome, StoppedAt, TornAt, UnprintedAt}
-use Rattle.alter_cli.specs.Verdicts.{is_done}
+use Rattle.plain_schema.specs.Verdicts.{is_done}
 
 -- nothing was printed
 none_printed : (w : List ℕ) → w ≡ w ++ verdict_lines 1 []

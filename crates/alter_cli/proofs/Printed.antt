@@ -9,7 +9,7 @@ use Rattle.alter_cli.specs.declared.stop.Stop.{Stop}
 use Rattle.alter_cli.specs.declared.stop.Stop.TheVariants.{Misused, TooLong, Unspelled, Unread, Unserved, Unreadable, Unwritten, Unprinted, Memory}
 use Rattle.alter_cli.specs.declared.status.Status.{Status}
 use Rattle.alter_cli.specs.declared.status.Status.TheVariants as statuses
-use Rattle.alter_cli.specs.declared.verdict.Verdict.{Verdict}
+use Rattle.plain_schema.specs.declared.verdict.Verdict.{Verdict}
 use Rattle.alter_cli.specs.Ending.{WhereSinkTells}
 use Rattle.alter_cli.specs.Given.{WroteFront}
 use Rattle.alter_cli.specs.Left.{Left}
@@ -17,7 +17,7 @@ use Rattle.alter_cli.specs.Lines.{verdict_lines}
 use Rattle.alter_cli.specs.Outcome.{IsLastLine, IsRunStatus, IsUnrunStatus, Printed, run_status}
 use Rattle.alter_cli.specs.Rules.{Rules}
 use Rattle.alter_cli.specs.Stops.{GaveLines, IsCaused, IsLast, NoScript, NoSession, stop_line, stop_status}
-use Rattle.alter_cli.specs.Verdicts.{is_done, verdict_line}
+use Rattle.plain_schema.specs.Verdicts.{is_done, verdict_line}
 use Rattle.alter_cli.proofs.FinishLemmas.{last_told, unprinted_end}
 use Rattle.alter_cli.proofs.Grown.{verdict_lines-one, verdict_lines-push}
 use Rattle.alter_cli.proofs.Reached.{all_push}

@@ -7,15 +7,15 @@ use Rattle.std.proofs.lemmas.Option.{slice_get_read}
 use Rattle.std.specs.List.{list_all}
 use Rattle.alter_disk.specs.Files.{Files}
 use Rattle.alter_disk.specs.Changes.{IfTold}
-use Rattle.alter_cli.specs.declared.verdict.Verdict.{Verdict}
-use Rattle.alter_cli.specs.declared.verdict.Verdict.TheVariants.{Done}
+use Rattle.plain_schema.specs.declared.verdict.Verdict.{Verdict}
+use Rattle.plain_schema.specs.declared.verdict.Verdict.TheVariants.{Done}
 use Rattle.alter_cli.specs.Given.{WroteFront}
 use Rattle.alter_cli.specs.Left.{Each, EachCrash, Left}
 use Rattle.alter_cli.specs.Lines.{verdict_lines}
 use Rattle.alter_cli.specs.Rules.{Rules}
 use Rattle.alter_cli.specs.Run.{Run}
 use Rattle.alter_cli.specs.Stops.{HasLines, IsNear, IsOpenTo, IsReachedBy, Makes, MayHave, RanEach, RanSome, RanTo, TornAt, UnprintedAt}
-use Rattle.alter_cli.specs.Verdicts.{is_done, verdict_line}
+use Rattle.plain_schema.specs.Verdicts.{is_done, verdict_line}
 use Rattle.common_laws.proofs.Lists.{take_one}
 use Rattle.alter_cli.proofs.Grown.{length-run, run-grows, verdict_lines-push}
 

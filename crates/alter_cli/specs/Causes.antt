@@ -6,12 +6,12 @@ use Rattle.alter_disk.specs.Outside.{Rises}
 use Rattle.alter_cli.specs.declared.status.Status.{Status}
 use Rattle.alter_cli.specs.declared.status.Status.TheVariants.{Fault}
 use Rattle.alter_cli.specs.declared.status.Status.TheVariants as statuses
-use Rattle.alter_cli.specs.declared.verdict.Verdict.{Verdict}
+use Rattle.plain_schema.specs.declared.verdict.Verdict.{Verdict}
 use Rattle.alter_cli.specs.Lines.{verdict_lines}
 use Rattle.alter_cli.specs.Rules.{Rules}
 use Rattle.alter_cli.specs.Left.{Each, Left}
 use Rattle.alter_cli.specs.Outcome.{IsRunStatus, IsServed, RanAll, run_status, script_limit}
-use Rattle.alter_cli.specs.Verdicts.{is_done}
+use Rattle.plain_schema.specs.Verdicts.{is_done}
 
 -- such a status comes only under the condition; and under it, unless want of memory or a fault with one of the causes comes
 pub record IsExactly (Wanted : Status → Type 0) (Condition Cause : Type 0) (status : Status) : Type 0 where

@@ -53,10 +53,10 @@ module _ {Image Command : Type 0} (rules : Rules Image Command) {D : Type 0} (di
   EndsStopped span = IfTold span.before.left (λ text. IfTold (disk.files old) (λ files.
       Leaves disk old new (λ c. rules.Alike files c ⊎ IsOfRun rules text files c)))
 
-  -- where the disk tells: files that open to no image that is served, and that a recovery does not write to, keep every byte
+  -- where the disk tells: files that open to no image that is served, and that a recovery leaves as they are, keep every byte
   abbrev pub EndsUnwritten : Type 0
   EndsUnwritten = IfTold (disk.files old) (λ files.
-      rules.IsCold files → ((image : Image) → rules.Serves files image → ⊥) → disk.files new ≡ Some files)
+      (rules.recovered files ≡ files) → ((image : Image) → rules.Serves files image → ⊥) → disk.files new ≡ Some files)
 
 module _ {Image Command : Type 0} (rules : Rules Image Command) {D : Type 0} (disk : Ghosts D) (old new : D) (span : Span) (status : Status) where
   -- where source, disk and sink tell: the lines, the status and both files

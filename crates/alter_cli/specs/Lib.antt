@@ -1,6 +1,5 @@
 pub mod Status
 pub mod Codes
-pub mod Verdicts
 pub mod Lines
 pub mod Given
 pub mod Left
@@ -12,3 +11,4 @@ pub mod Ending
 pub mod StopOf
 pub mod Stops
 pub mod First
+pub mod Opened

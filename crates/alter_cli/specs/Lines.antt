@@ -1,7 +1,7 @@
 -- The lines of the output.
 use Rattle.std.specs.Prelude.{ℕ, ◌+◌, List, [], ◌∷◌, ◌++◌, codes}
-use Rattle.alter_cli.specs.declared.verdict.Verdict.{Verdict}
-use Rattle.alter_cli.specs.Verdicts.{verdict_line}
+use Rattle.plain_schema.specs.declared.verdict.Verdict.{Verdict}
+use Rattle.plain_schema.specs.Verdicts.{verdict_line}
 
 -- the text and a line feed
 abbrev pub line : List ℕ → List ℕ

@@ -4,8 +4,8 @@ use Rattle.std.specs.List.{list_all}
 use Rattle.alter_disk.specs.Crash.{NoMore}
 use Rattle.alter_disk.specs.Files.{Files}
 use Rattle.alter_disk.specs.Outside.{ReadRose, Rises}
-use Rattle.alter_cli.specs.declared.verdict.Verdict.{Verdict}
-use Rattle.alter_cli.specs.declared.verdict.Verdict.TheVariants as verdicts
+use Rattle.plain_schema.specs.declared.verdict.Verdict.{Verdict}
+use Rattle.plain_schema.specs.declared.verdict.Verdict.TheVariants as verdicts
 use Rattle.alter_cli.specs.declared.status.Status.{Status}
 use Rattle.alter_cli.specs.declared.status.Status.TheVariants.{Done, Refused, Script, File, Fault, Memory, Usage}
 use Rattle.alter_cli.specs.declared.file_code.FileCode.{FileCode}
@@ -14,7 +14,7 @@ use Rattle.alter_cli.specs.Left.{Each, EachCrash, Left}
 use Rattle.alter_cli.specs.Lines.{verdict_lines, usage_line, too_long_line, script_unbuilt_line, fault_read_line, fault_write_line, memory_line}
 use Rattle.alter_cli.specs.Rules.{Rules}
 use Rattle.alter_cli.specs.Run.{Run}
-use Rattle.alter_cli.specs.Verdicts.{is_done}
+use Rattle.plain_schema.specs.Verdicts.{is_done}
 
 -- the longest script, in bytes
 abbrev pub script_limit : ℕ

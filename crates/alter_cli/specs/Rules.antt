@@ -2,7 +2,7 @@
 use Rattle.std.specs.Prelude.{ℕ, List}
 use Rattle.alter_disk.specs.Files.{Files}
 use Rattle.alter_cli.specs.declared.file_code.FileCode.{FileCode}
-use Rattle.alter_cli.specs.declared.verdict.Verdict.{Verdict}
+use Rattle.plain_schema.specs.declared.verdict.Verdict.{Verdict}
 
 -- scripts of commands, files that open to images, and what a command does to an image
 pub record Rules (Image Command : Type 0) : Type 1 where
@@ -16,8 +16,6 @@ pub record Rules (Image Command : Type 0) : Type 1 where
   pub Refuses : Files → FileCode → Type 0
   -- the two files after a recovery
   pub recovered : Files → Files
-  -- a recovery has nothing to write
-  pub IsCold : Files → Type 0
   -- the second two files stand for what the first two do
   pub Alike : Files → Files → Type 0
   -- the command gets this verdict on the first image, and leaves the other

@@ -8,8 +8,8 @@ use Rattle.alter_disk.specs.Outside.{Rises, Span, rises}
 use Rattle.alter_cli.specs.declared.file_code.FileCode.{FileCode}
 use Rattle.alter_cli.specs.declared.stop.Stop.{Stop}
 use Rattle.alter_cli.specs.declared.stop.Stop.TheVariants.{Misused, TooLong, Unspelled, Unread, Unserved, Unreadable, Unwritten, Unprinted, Memory}
-use Rattle.alter_cli.specs.declared.verdict.Verdict.{Verdict}
-use Rattle.alter_cli.specs.declared.verdict.Verdict.TheVariants.{Done}
+use Rattle.plain_schema.specs.declared.verdict.Verdict.{Verdict}
+use Rattle.plain_schema.specs.declared.verdict.Verdict.TheVariants.{Done}
 use Rattle.alter_cli.specs.declared.status.Status.{Status}
 use Rattle.alter_cli.specs.declared.status.Status.TheVariants as statuses
 use Rattle.alter_cli.specs.Causes.{CanRun, IsFileRefused, IsUnserved}
@@ -18,7 +18,7 @@ use Rattle.alter_cli.specs.Given.{WroteFront}
 use Rattle.alter_cli.specs.Codes.{file_line}
 use Rattle.alter_cli.specs.Left.{Each, EachCrash, Left, left_on}
 use Rattle.alter_cli.specs.Lines.{verdict_lines, usage_line, too_long_line, script_unbuilt_line, fault_read_line, fault_write_line, memory_line}
-use Rattle.alter_cli.specs.Verdicts.{is_done, verdict_line}
+use Rattle.plain_schema.specs.Verdicts.{is_done, verdict_line}
 use Rattle.alter_cli.specs.Outcome.{IsAsBefore, IsServed, Outcome, run_status, script_limit}
 use Rattle.alter_cli.specs.Rules.{Rules}
 use Rattle.alter_cli.specs.Run.{Run}

@@ -2,11 +2,15 @@
 #![tactic(auto)]
 
 mod file_code;
+mod halted;
 mod last_line;
+mod opening;
+mod perform;
+mod run;
 mod script_text;
 mod sink;
 mod status;
 mod stop;
-mod verdict;
 
+pub use perform::{Ended, sqlalter};
 pub use status::Status;

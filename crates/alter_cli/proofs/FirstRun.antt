@@ -1,0 +1,116 @@
+-- The loop over the commands on a session.
+use Rattle.std.proofs.Common.{◌≡◌, ◌≤◌, ℕ, ◌+◌, ◌⊎◌, inl, inr, ⊎_elim, Bool, List, length, take, Option, Some, Err, is_some, IsSomeAnd, refl, sym, ◌∙◌, ap, subst, arith}
+use Rattle.alter_disk.specs.declared.disk.Disk.{Ghosts}
+use Rattle.alter_disk.specs.declared.way.Way.{Way}
+use Rattle.alter_disk.specs.declared.way.Way.TheVariants.{Read, Write}
+use Rattle.alter_disk.specs.Changes.{IfTold}
+use Rattle.alter_disk.specs.Files.{Files}
+use Rattle.alter_disk.specs.Moments.{Leaves, ReadsQuietly}
+use Rattle.alter_disk.specs.Uses.{ReadFailed, WriteFailed}
+use Rattle.rollback_journal.specs.Standing.{standing_by}
+use Rattle.pager_commit.specs.Opens.{Opens, image_by}
+use Rattle.plain_sql.specs.declared.script.Command.{Command}
+use Rattle.plain_schema.specs.declared.verdict.Verdict.{Verdict}
+use Rattle.plain_schema.specs.Image.{Image}
+use Rattle.plain_schema.specs.Verdicts.{verdict_line}
+use Rattle.alter_session.specs.declared.session.Session.{Session}
+use Rattle.alter_session.specs.Session.{Holds, disk_of}
+use Rattle.alter_cli.specs.declared.stop.Stop.{Stop}
+use Rattle.alter_cli.specs.declared.stop.Stop.TheVariants.{Unreadable, Unwritten, Unprinted, Memory}
+use Rattle.alter_cli.specs.Ending.{WhereSinkTells}
+use Rattle.alter_cli.specs.First.{first_rules}
+use Rattle.alter_cli.specs.Given.{WroteFront}
+use Rattle.alter_cli.specs.Left.{Each, EachCrash, Left, left_on}
+use Rattle.alter_cli.specs.StopOf.{stop_of_way}
+use Rattle.alter_cli.specs.Stops.{GaveLines, IsOpenTo, IsRunStop, Makes, MayHave, NotRun, StoppedAt}
+use Rattle.alter_cli.proofs.OpenLemmas.{crash_since, rest_each}
+use Rattle.alter_cli.proofs.Printed.{GaveSo, gave_front, gave_some}
+use Rattle.alter_cli.proofs.Reached.{IsNext, Reached, reached_still, torn_at, unprinted}
+
+module _ {D : Type 0} (disk : Ghosts D) where
+  -- a session's files, read or left by a crash, open to its image
+  pub holds_each : (image : Image) (session : Session D) → Holds disk image session → Each (left_on disk (disk_of session)) (Opens image)
+  holds_each image session holds =
+      let opens : Opens image holds.files = ap (λ heat. image_by (standing_by heat holds.files)) holds.cold ∙ holds.pages in
+      let rests = rest_each disk holds.files (disk_of session) (ap is_some holds.told) holds.rests in
+      record {
+        read = subst (λ told. IsSomeAnd told (Opens image)) (sym holds.told) opens;
+        crash = λ c left. subst (Opens image) (sym (rests.crash c left)) opens;
+      }
+
+  -- the disk of a session that was closed
+  pub closed_each : (image : Image) (session : Session D) (d : D) → d ≡ disk_of session → Holds disk image session → Each (left_on disk d) (Opens image)
+  closed_each image session d same holds = subst (λ d. Each (left_on disk d) (Opens image)) (sym same) (holds_each image session holds)
+
+  -- calls that only read leave files that open to the session's image
+  pub read_each : (image : Image) (session : Session D) (d : D) → ReadsQuietly disk (disk_of session) d → Holds disk image session
+      → Each (left_on disk d) (Opens image)
+  read_each image session d quiet holds =
+      let each = holds_each image session holds in
+      record {
+        read = subst (λ told. IsSomeAnd told (Opens image)) (sym quiet.only.files) each.read;
+        crash = λ c left. each.crash c (quiet.crash c left);
+      }
+
+  module _ (counts_now : (d : D) (t : ℕ) (c : Files) → t ≤ disk.moment d → disk.may_leave d c → disk.left_since d t c)
+      (only_now : (d : D) (c : Files) → disk.left_since d (disk.moment d) c → disk.may_leave d c) where
+    -- what a crash may leave of a command that was not ended
+    pub written_each : (image : Image) (session : Session D) (d : D) (command : Command) → Holds disk image session
+        → Leaves disk (disk_of session) d (MayHave first_rules image command) → EachCrash (left_on disk d) (MayHave first_rules image command)
+    written_each image session d command holds run c left =
+        ⊎_elim (λ before. inl ((holds_each image session holds).crash c before)) (λ now. now)
+        (crash_since disk counts_now only_now (disk_of session) d (MayHave first_rules image command) run c left)
+
+    -- a command that failed
+    pub failed_run : (Sunk : Type 0) (session : Session D) (d : D) (way : Way) (number : ℕ) (command : Command) (had : Option (List ℕ))
+        → (way ≡ Read → ReadsQuietly disk (disk_of session) d × ReadFailed disk (disk_of session) d) → (way ≡ Write → WriteFailed disk (disk_of session) d)
+        → ((image : Image) → Holds disk image session → Leaves disk (disk_of session) d (MayHave first_rules image command))
+        → NotRun first_rules (ReadFailed disk (disk_of session) d) (WriteFailed disk (disk_of session) d) Sunk (λ image. Holds disk image session) number command
+        (left_on disk d) had had (stop_of_way way)
+    failed_run Sunk session d Read number command had read write stops =
+        ((read refl).1, λ image holds. read_each image session d (read refl).0 holds, refl)
+    failed_run Sunk session d Write number command had read write stops =
+        (write refl, λ image holds. written_each image session d command holds (stops image holds), refl)
+
+-- why not all commands were run
+pub reached_stop : (Read Write Sunk Read_all Write_all Sunk_all : Type 0) (IsOf : Image → Type 0) (image : Image) (commands : List Command) (given had now : Option (List ℕ))
+    (place number : ℕ) (command : Command) (after : Left) (all_done : Bool) (stop : Stop) → (Read → Read_all) → (Write → Write_all) → (Sunk → Sunk_all)
+    → IsNext commands place number command → NotRun first_rules Read Write Sunk IsOf number command after had now stop
+    → Reached first_rules IsOf image (take place commands) given had all_done
+    → StoppedAt first_rules Read_all Write_all Sunk_all image commands given after now stop
+reached_stop Read Write Sunk Read_all Write_all Sunk_all IsOf image commands given had now place number command after all_done Memory read write sunk next why reached =
+    reached_still first_rules IsOf image commands given place number command had now all_done next reached after why.0 why.1
+reached_stop Read Write Sunk Read_all Write_all Sunk_all IsOf image commands given had now place number command after all_done Unreadable read write sunk next why reached =
+    (read why.0, reached_still first_rules IsOf image commands given place number command had now all_done next reached after why.1 why.2)
+reached_stop Read Write Sunk Read_all Write_all Sunk_all IsOf image commands given had now place number command after all_done Unwritten read write sunk next why reached =
+    (write why.0, torn_at first_rules IsOf image commands given place number command had now all_done next reached after why.1 why.2)
+reached_stop Read Write Sunk Read_all Write_all Sunk_all IsOf image commands given had now place number command after all_done Unprinted read write sunk next why reached =
+    let (verdict, makes, front) = why.1 in
+    (sunk why.0, unprinted first_rules IsOf image commands given place number command had now all_done next reached after verdict makes front)
+reached_stop Read Write Sunk Read_all Write_all Sunk_all IsOf image commands given had now place number command after all_done stop read write sunk next why reached = absurd why
+
+-- the cause of a stop
+pub run_cause : (Read Write Sunk Read_all Write_all Sunk_all : Type 0) (IsOf : Image → Type 0) (number : ℕ) (command : Command) (after : Left) (had now : Option (List ℕ))
+    (stop : Stop) → (Read → Read_all) → (Write → Write_all) → (Sunk → Sunk_all) → NotRun first_rules Read Write Sunk IsOf number command after had now stop
+    → IsRunStop Read_all Write_all Sunk_all stop
+run_cause Read Write Sunk Read_all Write_all Sunk_all IsOf number command after had now Memory read write sunk why = tt
+run_cause Read Write Sunk Read_all Write_all Sunk_all IsOf number command after had now Unreadable read write sunk why = read why.0
+run_cause Read Write Sunk Read_all Write_all Sunk_all IsOf number command after had now Unwritten read write sunk why = write why.0
+run_cause Read Write Sunk Read_all Write_all Sunk_all IsOf number command after had now Unprinted read write sunk why = sunk why.0
+run_cause Read Write Sunk Read_all Write_all Sunk_all IsOf number command after had now stop read write sunk why = absurd why
+
+-- what the sink was given before a command stopped
+pub gave_stop : (Read Write Sunk Sunk_all : Type 0) (IsOf : Image → Type 0) (count number : ℕ) (command : Command) (after : Left)
+    (given had now : Option (List ℕ)) (all_done : Bool) (stop : Stop) → (Sunk → Sunk_all) → number ≡ count + 1
+    → NotRun first_rules Read Write Sunk IsOf number command after had now stop
+    → WhereSinkTells given had (GaveSo count all_done) → WhereSinkTells given now (λ g n. GaveLines Sunk_all g n (Err stop))
+gave_stop Read Write Sunk Sunk_all IsOf count number command after given had now all_done Memory sunk at why is =
+    gave_some Sunk_all given had now count all_done Memory why.1 is (λ g n verdicts lines. (verdicts, lines))
+gave_stop Read Write Sunk Sunk_all IsOf count number command after given had now all_done Unreadable sunk at why is =
+    gave_some Sunk_all given had now count all_done Unreadable why.2 is (λ g n verdicts lines. (verdicts, lines))
+gave_stop Read Write Sunk Sunk_all IsOf count number command after given had now all_done Unwritten sunk at why is =
+    gave_some Sunk_all given had now count all_done Unwritten why.2 is (λ g n verdicts lines. (verdicts, lines))
+gave_stop Read Write Sunk Sunk_all IsOf count number command after given had now all_done Unprinted sunk at why is =
+    let (verdict, makes, front) = why.1 in
+    gave_front Sunk_all given had now count number all_done verdict (sunk why.0) at front is
+gave_stop Read Write Sunk Sunk_all IsOf count number command after given had now all_done stop sunk at why is = absurd why
