@@ -14,6 +14,8 @@ use Rattle.plain_schema.specs.declared.verdict.Verdict.{Verdict}
 use Rattle.plain_schema.specs.Image.{Image}
 use Rattle.plain_schema.specs.Verdicts.{verdict_line}
 use Rattle.alter_session.specs.declared.session.Session.{Session}
+use Rattle.alter_session.specs.declared.answer.Outcome.TheVariants as outcomes
+use Rattle.alter_session.specs.Applying.{HasWay, IsQuiet}
 use Rattle.alter_session.specs.Session.{Holds, disk_of}
 use Rattle.alter_cli.specs.declared.stop.Stop.{Stop}
 use Rattle.alter_cli.specs.declared.stop.Stop.TheVariants.{Unreadable, Unwritten, Unprinted, Memory}
@@ -63,54 +65,54 @@ module _ {D : Type 0} (disk : Ghosts D) where
 
     -- a command that failed
     pub failed_run : (Sunk : Type 0) (session : Session D) (d : D) (way : Way) (number : ℕ) (command : Command) (had : Option (List ℕ))
-        → (way ≡ Read → ReadsQuietly disk (disk_of session) d × ReadFailed disk (disk_of session) d) → (way ≡ Write → WriteFailed disk (disk_of session) d)
+        → IsQuiet disk (disk_of session) (outcomes.Failed d way) → HasWay disk (disk_of session) (outcomes.Failed d way)
         → ((image : Image) → Holds disk image session → Leaves disk (disk_of session) d (MayHave first_rules image command))
         → NotRun first_rules (ReadFailed disk (disk_of session) d) (WriteFailed disk (disk_of session) d) Sunk (λ image. Holds disk image session) number command
         (left_on disk d) had had (stop_of_way way)
-    failed_run Sunk session d Read number command had read write stops =
-        ((read refl).1, λ image holds. read_each image session d (read refl).0 holds, refl)
-    failed_run Sunk session d Write number command had read write stops =
-        (write refl, λ image holds. written_each image session d command holds (stops image holds), refl)
+    failed_run Sunk session d Read number command had quiet why stops =
+        (why, (λ image holds. read_each image session d quiet holds), refl)
+    failed_run Sunk session d Write number command had quiet why stops =
+        (why, (λ image holds. written_each image session d command holds (stops image holds)), refl)
 
 -- why not all commands were run
-pub reached_stop : (Read Write Sunk Read_all Write_all Sunk_all : Type 0) (IsOf : Image → Type 0) (image : Image) (commands : List Command) (given had now : Option (List ℕ))
-    (place number : ℕ) (command : Command) (after : Left) (all_done : Bool) (stop : Stop) → (Read → Read_all) → (Write → Write_all) → (Sunk → Sunk_all)
-    → IsNext commands place number command → NotRun first_rules Read Write Sunk IsOf number command after had now stop
+pub reached_stop : (Reads Writes Sinks Read_all Write_all Sink_all : Type 0) (IsOf : Image → Type 0) (image : Image) (commands : List Command) (given had now : Option (List ℕ))
+    (place number : ℕ) (command : Command) (after : Left) (all_done : Bool) (stop : Stop) → (Reads → Read_all) → (Writes → Write_all) → (Sinks → Sink_all)
+    → IsNext commands place number command → NotRun first_rules Reads Writes Sinks IsOf number command after had now stop
     → Reached first_rules IsOf image (take place commands) given had all_done
-    → StoppedAt first_rules Read_all Write_all Sunk_all image commands given after now stop
-reached_stop Read Write Sunk Read_all Write_all Sunk_all IsOf image commands given had now place number command after all_done Memory read write sunk next why reached =
+    → StoppedAt first_rules Read_all Write_all Sink_all image commands given after now stop
+reached_stop Reads Writes Sinks Read_all Write_all Sink_all IsOf image commands given had now place number command after all_done Memory read write sunk next why reached =
     reached_still first_rules IsOf image commands given place number command had now all_done next reached after why.0 why.1
-reached_stop Read Write Sunk Read_all Write_all Sunk_all IsOf image commands given had now place number command after all_done Unreadable read write sunk next why reached =
+reached_stop Reads Writes Sinks Read_all Write_all Sink_all IsOf image commands given had now place number command after all_done Unreadable read write sunk next why reached =
     (read why.0, reached_still first_rules IsOf image commands given place number command had now all_done next reached after why.1 why.2)
-reached_stop Read Write Sunk Read_all Write_all Sunk_all IsOf image commands given had now place number command after all_done Unwritten read write sunk next why reached =
+reached_stop Reads Writes Sinks Read_all Write_all Sink_all IsOf image commands given had now place number command after all_done Unwritten read write sunk next why reached =
     (write why.0, torn_at first_rules IsOf image commands given place number command had now all_done next reached after why.1 why.2)
-reached_stop Read Write Sunk Read_all Write_all Sunk_all IsOf image commands given had now place number command after all_done Unprinted read write sunk next why reached =
+reached_stop Reads Writes Sinks Read_all Write_all Sink_all IsOf image commands given had now place number command after all_done Unprinted read write sunk next why reached =
     let (verdict, makes, front) = why.1 in
     (sunk why.0, unprinted first_rules IsOf image commands given place number command had now all_done next reached after verdict makes front)
-reached_stop Read Write Sunk Read_all Write_all Sunk_all IsOf image commands given had now place number command after all_done stop read write sunk next why reached = absurd why
+reached_stop Reads Writes Sinks Read_all Write_all Sink_all IsOf image commands given had now place number command after all_done stop read write sunk next why reached = absurd why
 
 -- the cause of a stop
-pub run_cause : (Read Write Sunk Read_all Write_all Sunk_all : Type 0) (IsOf : Image → Type 0) (number : ℕ) (command : Command) (after : Left) (had now : Option (List ℕ))
-    (stop : Stop) → (Read → Read_all) → (Write → Write_all) → (Sunk → Sunk_all) → NotRun first_rules Read Write Sunk IsOf number command after had now stop
-    → IsRunStop Read_all Write_all Sunk_all stop
-run_cause Read Write Sunk Read_all Write_all Sunk_all IsOf number command after had now Memory read write sunk why = tt
-run_cause Read Write Sunk Read_all Write_all Sunk_all IsOf number command after had now Unreadable read write sunk why = read why.0
-run_cause Read Write Sunk Read_all Write_all Sunk_all IsOf number command after had now Unwritten read write sunk why = write why.0
-run_cause Read Write Sunk Read_all Write_all Sunk_all IsOf number command after had now Unprinted read write sunk why = sunk why.0
-run_cause Read Write Sunk Read_all Write_all Sunk_all IsOf number command after had now stop read write sunk why = absurd why
+pub run_cause : (Reads Writes Sinks Read_all Write_all Sink_all : Type 0) (IsOf : Image → Type 0) (number : ℕ) (command : Command) (after : Left) (had now : Option (List ℕ))
+    (stop : Stop) → (Reads → Read_all) → (Writes → Write_all) → (Sinks → Sink_all) → NotRun first_rules Reads Writes Sinks IsOf number command after had now stop
+    → IsRunStop Read_all Write_all Sink_all stop
+run_cause Reads Writes Sinks Read_all Write_all Sink_all IsOf number command after had now Memory read write sunk why = tt
+run_cause Reads Writes Sinks Read_all Write_all Sink_all IsOf number command after had now Unreadable read write sunk why = read why.0
+run_cause Reads Writes Sinks Read_all Write_all Sink_all IsOf number command after had now Unwritten read write sunk why = write why.0
+run_cause Reads Writes Sinks Read_all Write_all Sink_all IsOf number command after had now Unprinted read write sunk why = sunk why.0
+run_cause Reads Writes Sinks Read_all Write_all Sink_all IsOf number command after had now stop read write sunk why = absurd why
 
 -- what the sink was given before a command stopped
-pub gave_stop : (Read Write Sunk Sunk_all : Type 0) (IsOf : Image → Type 0) (count number : ℕ) (command : Command) (after : Left)
-    (given had now : Option (List ℕ)) (all_done : Bool) (stop : Stop) → (Sunk → Sunk_all) → number ≡ count + 1
-    → NotRun first_rules Read Write Sunk IsOf number command after had now stop
-    → WhereSinkTells given had (GaveSo count all_done) → WhereSinkTells given now (λ g n. GaveLines Sunk_all g n (Err stop))
-gave_stop Read Write Sunk Sunk_all IsOf count number command after given had now all_done Memory sunk at why is =
-    gave_some Sunk_all given had now count all_done Memory why.1 is (λ g n verdicts lines. (verdicts, lines))
-gave_stop Read Write Sunk Sunk_all IsOf count number command after given had now all_done Unreadable sunk at why is =
-    gave_some Sunk_all given had now count all_done Unreadable why.2 is (λ g n verdicts lines. (verdicts, lines))
-gave_stop Read Write Sunk Sunk_all IsOf count number command after given had now all_done Unwritten sunk at why is =
-    gave_some Sunk_all given had now count all_done Unwritten why.2 is (λ g n verdicts lines. (verdicts, lines))
-gave_stop Read Write Sunk Sunk_all IsOf count number command after given had now all_done Unprinted sunk at why is =
+pub gave_stop : (Reads Writes Sinks Sink_all : Type 0) (IsOf : Image → Type 0) (count number : ℕ) (command : Command) (after : Left)
+    (given had now : Option (List ℕ)) (all_done : Bool) (stop : Stop) → (Sinks → Sink_all) → number ≡ count + 1
+    → NotRun first_rules Reads Writes Sinks IsOf number command after had now stop
+    → WhereSinkTells given had (GaveSo count all_done) → WhereSinkTells given now (λ g n. GaveLines Sink_all g n (Err stop))
+gave_stop Reads Writes Sinks Sink_all IsOf count number command after given had now all_done Memory sunk at why is =
+    gave_some Sink_all given had now count all_done Memory why.1 is (λ g n verdicts lines. (verdicts, lines))
+gave_stop Reads Writes Sinks Sink_all IsOf count number command after given had now all_done Unreadable sunk at why is =
+    gave_some Sink_all given had now count all_done Unreadable why.2 is (λ g n verdicts lines. (verdicts, lines))
+gave_stop Reads Writes Sinks Sink_all IsOf count number command after given had now all_done Unwritten sunk at why is =
+    gave_some Sink_all given had now count all_done Unwritten why.2 is (λ g n verdicts lines. (verdicts, lines))
+gave_stop Reads Writes Sinks Sink_all IsOf count number command after given had now all_done Unprinted sunk at why is =
     let (verdict, makes, front) = why.1 in
-    gave_front Sunk_all given had now count number all_done verdict (sunk why.0) at front is
-gave_stop Read Write Sunk Sunk_all IsOf count number command after given had now all_done stop sunk at why is = absurd why
+    gave_front Sink_all given had now count number all_done verdict (sunk why.0) at front is
+gave_stop Reads Writes Sinks Sink_all IsOf count number command after given had now all_done stop sunk at why is = absurd why

@@ -10,3 +10,4 @@ pub mod Printed
 pub mod Reached
 pub mod RunLemmas
 pub mod StatusLemmas
+pub mod StopLemmas

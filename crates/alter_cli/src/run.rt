@@ -106,9 +106,12 @@ pub fn run_commands<D: Disk, K: Sink>(
     for command in commands {
         number += 1;
         match run_command(alloc, session, number, command, out) {
-            Ok(turn) => {
-                all_done = all_done && turn.verdict.is_done();
-                session = turn.session;
+            Ok(Turn {
+                session: next,
+                verdict,
+            }) => {
+                session = next;
+                all_done = all_done && verdict.is_done();
             }
             Err(Halted { disk, stop }) => {
                 return Ran {
