@@ -33,10 +33,13 @@ module _ {D : Type 0} (disk : Ghosts D) where
   -- a session's files, read or left by a crash, open to its image
   pub holds_each : (image : Image) (session : Session D) → Holds disk image session → Each (left_on disk (disk_of session)) (Opens image)
   holds_each image session holds =
-      let opens : Opens image holds.files = ap (λ heat. image_by (standing_by heat holds.files)) holds.cold ∙ holds.pages in
-      let rests = rest_each disk holds.files (disk_of session) (ap is_some holds.told) holds.rests in
+      let clean = holds.clean in
+      let files : Files = record { db = clean.base; journal = clean.log } in
+      let told = clean.opened.told in
+      let opens : Opens image files = ap (λ heat. image_by (standing_by heat files)) clean.opened.cold ∙ clean.image_is in
+      let rests = rest_each disk files (disk_of session) (ap is_some told) (record { db = clean.opened.rests.db; journal = clean.opened.rests.journal }) in
       record {
-        read = subst (λ told. IsSomeAnd told (Opens image)) (sym holds.told) opens;
+        read = subst (λ told. IsSomeAnd told (Opens image)) (sym told) opens;
         crash = λ c left. subst (Opens image) (sym (rests.crash c left)) opens;
       }
 

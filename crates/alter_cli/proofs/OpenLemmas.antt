@@ -13,7 +13,7 @@ use Rattle.plain_schema.specs.Image.{Image}
 use Rattle.alter_session.specs.declared.open_error.OpenError.{OpenError}
 use Rattle.alter_session.specs.declared.open_error.OpenError.TheVariants as errors
 use Rattle.alter_session.specs.declared.session.Session.{Session}
-use Rattle.alter_session.specs.Opening.{HasCause, IsOpened, IsUnopened}
+use Rattle.alter_session.specs.Opening.{HasCause, IsOpenedFrom, IsUnopened}
 use Rattle.alter_session.specs.Serves.{Refuses, Serves}
 use Rattle.alter_session.specs.Session.{Holds}
 use Rattle.alter_cli.specs.declared.file_code.FileCode.{FileCode}
@@ -71,7 +71,7 @@ module _ {D : Type 0} (disk : Ghosts D) where
   }
 
   -- the session's files have an image that is served
-  pub opened_told : (told opened : Option Files) (session : Session D) → opened ≡ told → ((f : Files) → opened ≡ Some f → IsOpened disk f session)
+  pub opened_told : (told opened : Option Files) (session : Session D) → opened ≡ told → ((f : Files) → opened ≡ Some f → IsOpenedFrom disk f session)
       → IfTold told (OpensOf first_rules (λ image. Holds disk image session))
   opened_told told opened session same is =
       if_told told (OpensOf first_rules (λ image. Holds disk image session))

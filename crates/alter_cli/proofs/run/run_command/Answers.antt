@@ -19,7 +19,7 @@ returns-in-Done-clause-stop g c = (
     c.in-Err.ensures.cause.failed,
     (
         c.in-Done.answer.verdict,
-        (λ last holds. let step = c.in-Done.ensures.applied last holds in (step.0, step.1, closed_each g.D.Disk step.0 c.in-Done.session c.close.result c.close.ensures step.2)),
+        (λ last holds. let step = c.in-Done.ensures.applied last holds in (step.last, step.step, closed_each g.D.Disk step.last c.in-Done.session c.close.result c.close.ensures step.holds)),
         subst (λ (l : List ℕ). IfTold (g.K.Sink.written c.args.out.now) (λ w. WroteFront w l (g.K.Sink.written c.print.new.out)))
             (c.as_bytes.ensures.value ∙ c.in-Done.ensures.line) c.in-Err.ensures.front,
     ),
@@ -29,6 +29,9 @@ pub returns-in-Done-clause-stops : goal.returns-in-Done-clause-stops
 returns-in-Done-clause-stops g c = λ image holds.
     subst (λ d. Leaves g.D.Disk (disk_of c.args.session) d (MayHave first_rules image c.args.command.now)) (sym c.close.ensures)
     (c.in-Done.ensures.stops image holds)
+
+pub returns-in-Ok-clause-makes : goal.returns-in-Ok-clause-makes
+returns-in-Ok-clause-makes g c = λ last holds. let step = c.in-Done.ensures.applied last holds in (step.last, step.step, step.holds)
 
 pub returns-in-Memory-clause-stop : goal.returns-in-Memory-clause-stop
 returns-in-Memory-clause-stop g c =
