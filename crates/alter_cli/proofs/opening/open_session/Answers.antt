@@ -6,9 +6,6 @@ use Rattle.alter_cli.specs.Stops.{NoSession}
 use Rattle.alter_cli.proofs.OpenLemmas.{no_session_for, opened_told}
 use Rattle.alter_cli.proofs.opening.open_session.Goals as goal
 
-pub open-requires-2-clause-stub : goal.open-requires-2-clause-stub
-open-requires-2-clause-stub g c = ?
-
 pub returns-in-Ok-clause-opened : goal.returns-in-Ok-clause-opened
 returns-in-Ok-clause-opened g c =
     opened_told g.D.Disk (g.D.Disk.files c.args.disk) (g.D.Disk.files c.open.new.disk) c.in-Ok.session c.open.ensures.opens.only.files c.in-Ok.ensures.opened

@@ -11,9 +11,6 @@ use Rattle.alter_cli.specs.Stops.{MayHave, NotRun}
 use Rattle.alter_cli.proofs.FirstRun.{closed_each, failed_run}
 use Rattle.alter_cli.proofs.run.run_command.Goals as goal
 
-pub apply-requires-clause-stub : goal.apply-requires-clause-stub
-apply-requires-clause-stub g c = ?
-
 pub returns-in-Done-clause-stop : goal.returns-in-Done-clause-stop
 returns-in-Done-clause-stop g c = (
     c.in-Err.ensures.cause.failed,
