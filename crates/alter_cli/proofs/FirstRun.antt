@@ -1,18 +1,15 @@
 -- The loop over the commands on a session.
-use Rattle.std.proofs.Common.{◌≡◌, ◌≤◌, ℕ, ◌+◌, ◌⊎◌, inl, inr, ⊎_elim, Bool, List, length, take, Option, Some, Err, is_some, IsSomeAnd, refl, sym, ◌∙◌, ap, subst, arith}
+use Rattle.std.proofs.Common.{◌≡◌, ◌≤◌, ℕ, ◌+◌, inl, ⊎_elim, Bool, List, take, Option, Err, is_some, IsSomeAnd, refl, sym, ◌∙◌, ap, subst}
 use Rattle.alter_disk.specs.declared.disk.Disk.{Ghosts}
 use Rattle.alter_disk.specs.declared.way.Way.{Way}
 use Rattle.alter_disk.specs.declared.way.Way.TheVariants.{Read, Write}
-use Rattle.alter_disk.specs.Changes.{IfTold}
 use Rattle.alter_disk.specs.Files.{Files}
 use Rattle.alter_disk.specs.Moments.{Leaves, ReadsQuietly}
 use Rattle.alter_disk.specs.Uses.{ReadFailed, WriteFailed}
 use Rattle.rollback_journal.specs.Standing.{standing_by}
 use Rattle.pager_commit.specs.Opens.{Opens, image_by}
 use Rattle.plain_sql.specs.declared.script.Command.{Command}
-use Rattle.plain_schema.specs.declared.verdict.Verdict.{Verdict}
 use Rattle.plain_schema.specs.Image.{Image}
-use Rattle.plain_schema.specs.Verdicts.{verdict_line}
 use Rattle.alter_session.specs.declared.session.Session.{Session}
 use Rattle.alter_session.specs.declared.answer.Outcome.TheVariants as outcomes
 use Rattle.alter_session.specs.Applying.{HasWay, IsQuiet}
@@ -21,10 +18,9 @@ use Rattle.alter_cli.specs.declared.stop.Stop.{Stop}
 use Rattle.alter_cli.specs.declared.stop.Stop.TheVariants.{Unreadable, Unwritten, Unprinted, Memory}
 use Rattle.alter_cli.specs.Ending.{WhereSinkTells}
 use Rattle.alter_cli.specs.First.{first_rules}
-use Rattle.alter_cli.specs.Given.{WroteFront}
 use Rattle.alter_cli.specs.Left.{Each, EachCrash, Left, left_on}
 use Rattle.alter_cli.specs.StopOf.{stop_of_way}
-use Rattle.alter_cli.specs.Stops.{GaveLines, IsOpenTo, IsRunStop, Makes, MayHave, NotRun, StoppedAt}
+use Rattle.alter_cli.specs.Stops.{GaveLines, IsRunStop, MayHave, NotRun, StoppedAt}
 use Rattle.alter_cli.proofs.OpenLemmas.{crash_since, rest_each}
 use Rattle.alter_cli.proofs.Printed.{GaveSo, gave_front, gave_some}
 use Rattle.alter_cli.proofs.Reached.{IsNext, Reached, reached_still, torn_at, unprinted}

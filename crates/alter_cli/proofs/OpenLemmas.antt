@@ -1,5 +1,5 @@
 -- The opening of the call's file.
-use Rattle.std.proofs.Common.{◌≡◌, ◌≤◌, ℕ, ◌⊎◌, inl, inr, ⊎_elim, Bool, true, Option, Some, None, is_some, IsSomeAnd, refl, sym, ◌∙◌, ap, subst, arith}
+use Rattle.std.proofs.Common.{◌≡◌, ◌≤◌, ℕ, ◌⊎◌, inl, inr, ⊎_elim, true, Option, Some, None, is_some, IsSomeAnd, refl, sym, ◌∙◌, ap, arith}
 use Rattle.alter_disk.specs.declared.disk.Disk.{Ghosts}
 use Rattle.alter_disk.specs.declared.way.Way.TheVariants.{Read, Write}
 use Rattle.alter_disk.specs.Changes.{IfTold}
@@ -57,6 +57,7 @@ module _ {D : Type 0} (disk : Ghosts D) where
       pair : (c : Files) → c.db ≡ f.db → c.journal ≡ f.journal → c ≡ f
       pair c db journal =
           ap (λ (b : _). record { db = b; journal = c.journal }) db ∙ ap (λ (j : _). record { db = f.db; journal = j }) journal
+
       both : (told : Option Files) → IfTold told (λ c. c.db ≡ f.db) → IfTold told (λ c. c.journal ≡ f.journal) → IfTold told (λ c. c ≡ f)
       both None db journal = tt
       both (Some c) db journal = pair c db journal

@@ -1,5 +1,5 @@
 -- The parts of a call make its outcome.
-use Rattle.std.proofs.Common.{◌≡◌, ℕ, Bool, true, false, inl, inr, Option, Some, None, is_some, Result, Ok, Err, IfOk, IfErr, IsSomeAnd, List, [], ◌∷◌, ◌++◌, take, refl, sym, ◌∙◌, ap, subst, append-nil}
+use Rattle.std.proofs.Common.{◌≡◌, ℕ, Bool, true, false, inl, inr, Option, Some, None, is_some, Result, Ok, Err, IfOk, IfErr, IsSomeAnd, List, [], ◌∷◌, ◌++◌, take, refl, sym, subst, append-nil}
 use Rattle.std.specs.List.{list_all}
 use Rattle.std.proofs.lemmas.Option.{same_Some}
 use Rattle.alter_disk.specs.Files.{Files}
@@ -15,7 +15,7 @@ use Rattle.alter_cli.specs.Lines.{verdict_lines}
 use Rattle.alter_cli.specs.Outcome.{HasRun, IsBetween, IsServed, IsUntouched, Outcome, Ran, run_status}
 use Rattle.alter_cli.specs.Rules.{Rules}
 use Rattle.alter_cli.specs.Run.{Run}
-use Rattle.alter_cli.specs.Stops.{HasLines, IsLeftAlike, IsNear, NoScript, NoSession, OpensOf, RanEach, RanSo, RanSome, StoppedAt, TornAt, UnprintedAt}
+use Rattle.alter_cli.specs.Stops.{IsNear, NoScript, NoSession, OpensOf, RanEach, RanSo, RanSome, StoppedAt, TornAt, UnprintedAt}
 use Rattle.plain_schema.specs.Verdicts.{is_done}
 
 -- nothing was printed

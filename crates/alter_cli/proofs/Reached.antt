@@ -14,7 +14,7 @@ use Rattle.alter_cli.specs.Left.{Each, EachCrash, Left}
 use Rattle.alter_cli.specs.Lines.{verdict_lines}
 use Rattle.alter_cli.specs.Rules.{Rules}
 use Rattle.alter_cli.specs.Run.{Run}
-use Rattle.alter_cli.specs.Stops.{HasLines, IsNear, IsOpenTo, IsReachedBy, Makes, MayHave, RanEach, RanSome, RanTo, TornAt, UnprintedAt}
+use Rattle.alter_cli.specs.Stops.{HasLines, IsNear, IsOpenTo, IsReachedBy, Makes, MayHave, RanEach, RanSome, TornAt, UnprintedAt}
 use Rattle.plain_schema.specs.Verdicts.{is_done, verdict_line}
 use Rattle.common_laws.proofs.Lists.{take_one}
 use Rattle.alter_cli.proofs.Grown.{length-run, run-grows, verdict_lines-push}

@@ -106,10 +106,12 @@ pub fn run_commands<D: Disk, K: Sink>(
     for command in commands {
         number += 1;
         match run_command(alloc, session, number, command, out) {
-            Ok(Turn {
-                session: next,
-                verdict,
-            }) => {
+            Ok(
+                Turn {
+                    session: next,
+                    verdict,
+                },
+            ) => {
                 session = next;
                 all_done = all_done && verdict.is_done();
             }

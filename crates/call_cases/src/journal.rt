@@ -27,12 +27,7 @@ fn checksum(page: &[u8]) -> u32 {
 }
 
 /// Adds the record of a page. Its sum is off by so much.
-fn push_record(
-    number: u32,
-    page: &[u8],
-    off: u32,
-    bytes: &mut Vec<u8>,
-) -> Result<(), AllocError> {
+fn push_record(number: u32, page: &[u8], off: u32, bytes: &mut Vec<u8>) -> Result<(), AllocError> {
     bytes.extend_from_slice(&number.to_be_bytes())?;
     bytes.extend_from_slice(page)?;
     bytes.extend_from_slice(&checksum(page).wrapping_add(off).to_be_bytes())
@@ -40,12 +35,7 @@ fn push_record(
 
 /// The journal of this kind beside a database with pages of this size: `torn` has page 2, and page 1 with a wrong
 /// sum; `headed` has no record; `super` ends as one with a super-journal does; `short` lacks page 3.
-pub fn journal(
-    alloc: Global,
-    kind: &str,
-    db: &[u8],
-    page: usize,
-) -> Result<Vec<u8>, AllocError> {
+pub fn journal(alloc: Global, kind: &str, db: &[u8], page: usize) -> Result<Vec<u8>, AllocError> {
     let first = db.get(..page).unwrap_or(&[]);
     let second = db.get(page..page.saturating_mul(2)).unwrap_or(&[]);
     if kind == "torn" {

@@ -13,13 +13,13 @@ use Rattle.alter_cli.proofs.run.run_command.Goals as goal
 
 pub returns-in-Done-clause-stop : goal.returns-in-Done-clause-stop
 returns-in-Done-clause-stop g c = (
-    c.in-Err.ensures.cause.failed,
-    (
-        c.in-Done.answer.verdict,
-        (λ last holds. let step = c.in-Done.ensures.applied last holds in (step.last, step.step, closed_each g.D.Disk step.last c.in-Done.session c.close.result c.close.ensures step.holds)),
-        subst (λ (l : List ℕ). IfTold (g.K.Sink.written c.args.out.now) (λ w. WroteFront w l (g.K.Sink.written c.print.new.out)))
-            (c.as_bytes.ensures.value ∙ c.in-Done.ensures.line) c.in-Err.ensures.front,
-    ),
+  c.in-Err.ensures.cause.failed,
+  (
+    c.in-Done.answer.verdict,
+    (λ last holds. let step = c.in-Done.ensures.applied last holds in (step.last, step.step, closed_each g.D.Disk step.last c.in-Done.session c.close.result c.close.ensures step.holds)),
+    subst (λ (l : List ℕ). IfTold (g.K.Sink.written c.args.out.now) (λ w. WroteFront w l (g.K.Sink.written c.print.new.out)))
+        (c.as_bytes.ensures.value ∙ c.in-Done.ensures.line) c.in-Err.ensures.front,
+  ),
 )
 
 pub returns-in-Done-clause-stops : goal.returns-in-Done-clause-stops

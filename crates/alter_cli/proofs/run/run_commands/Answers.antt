@@ -1,5 +1,4 @@
-use Rattle.std.proofs.Common.{arith, ◌≡◌, ◌&&◌, ◌<◌, ◌+◌, ◌^◌, length, take, refl, sym, ◌∙◌, ap, subst}
-use Rattle.std.proofs.lemmas.Option.{slice_get_read}
+use Rattle.std.proofs.Common.{arith, ◌≡◌, ◌&&◌, ◌+◌, take, refl, sym, ◌∙◌, ap, subst}
 use Rattle.alter_disk.specs.Faults.{Rose}
 use Rattle.alter_disk.specs.Moments.{Leaves}
 use Rattle.alter_disk.specs.Uses.{ReadFailed, WriteFailed}
@@ -9,8 +8,8 @@ use Rattle.alter_cli.specs.First.{first_rules}
 use Rattle.alter_cli.specs.Left.{left_on}
 use Rattle.alter_cli.specs.Stops.{IsReachedBy, MayHave}
 use Rattle.alter_disk.proofs.Moments.{goes_far, started, stays_none, stays_on, weaker}
-use Rattle.alter_cli.proofs.Printed.{gave_all, gave_more, gave_none}
-use Rattle.alter_cli.proofs.FirstRun.{closed_each, gave_stop, reached_stop, run_cause}
+use Rattle.alter_cli.proofs.Printed.{gave_more, gave_none}
+use Rattle.alter_cli.proofs.FirstRun.{closed_each, reached_stop}
 use Rattle.alter_cli.proofs.Reached.{Reached, is_next, may_reach, reached_all, reached_more, reached_none}
 use Rattle.alter_cli.proofs.run.run_commands.Goals as goal
 use Rattle.alter_cli.proofs.run.run_commands.Goals.{then-all_done, else-all_done}
