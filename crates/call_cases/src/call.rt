@@ -107,32 +107,52 @@ pub fn answer(alloc: Global, case: &Case<'_>) -> Result<String, AllocError> {
     format!(in alloc; "{lines}{code}, database {change}, journal {journal_change}\n")
 }
 
-/// Opens two files with an empty script, and says whether the database then is one of these two, the first of them.
+/// Which databases were found: the one before a call, the one that is wanted behind it, and any other.
+#[derive(Clone, Copy)]
+struct Found {
+    before: bool,
+    after: bool,
+    other: bool,
+}
+
+/// Opens two files with an empty script, and tells which database is found.
 fn reopened(
     alloc: Global,
-    files: &(Vec<u8>, Vec<u8>),
+    db: &[u8],
+    journal: &[u8],
     before: &[u8],
     after: &[u8],
-) -> Result<Option<bool>, AllocError> {
+) -> Result<Found, AllocError> {
     let mut out = ListSink::new(alloc, 99, &[])?;
-    let ended = run(
-        alloc,
-        files.0.as_slice(),
-        files.1.as_slice(),
-        b"",
-        &[],
-        &mut out,
-    )?;
-    let db = ended.disk.bytes(Which::Db);
-    Ok(if ended.status != Status::Done {
-        None
-    } else if db == before {
-        Some(true)
-    } else if db == after {
-        Some(false)
-    } else {
-        None
+    let ended = run(alloc, db, journal, b"", &[], &mut out)?;
+    let is_done = ended.status == Status::Done;
+    let is_before = is_done && ended.disk.bytes(Which::Db) == before;
+    let is_after = is_done && ended.disk.bytes(Which::Db) == after;
+    Ok(Found {
+        before: is_before,
+        after: is_after,
+        other: !is_before && !is_after,
     })
+}
+
+/// Tells what is found on each of the pairs of files that the disk may leave.
+fn found_on(
+    alloc: Global,
+    disk: &MemoryDisk,
+    before: &[u8],
+    after: &[u8],
+    mut found: Found,
+) -> Result<Found, AllocError> {
+    for choice in 0..4u8 {
+        let (db, journal) = disk.stopped(choice)?;
+        let new = reopened(alloc, db.as_slice(), journal.as_slice(), before, after)?;
+        found = Found {
+            before: found.before || new.before,
+            after: found.after || new.after,
+            other: found.other || new.other,
+        };
+    }
+    Ok(found)
 }
 
 /// Runs the case on a disk that stops after so many calls.
@@ -156,27 +176,30 @@ fn run_stopped(
     ))
 }
 
-/// Stops the case behind each call of the disk, and tells what an empty script finds behind each stop.
+/// Stops the case behind each call of the disk, and tells what an empty script finds behind the stops.
 pub fn answer_stopped(alloc: Global, case: &Case<'_>) -> Result<String, AllocError> {
     let db = case.database(alloc)?;
     let script = case.script(alloc)?;
     let wanted = case.wanted(alloc)?;
-    let (mut olds, mut news) = (false, false);
-    for calls in 0..999u64 {
+    let mut found = Found {
+        before: false,
+        after: false,
+        other: false,
+    };
+    for calls in 0..99u64 {
         let ended = run_stopped(alloc, db.as_slice(), script.as_slice(), calls)?;
         if ended.status == Status::Done {
-            return format!(in alloc; "stopped: before {olds}, after {news}, and nothing else\n");
+            break;
         }
-        for choice in 0..4u8 {
-            let files = ended.disk.inner().stopped(choice)?;
-            match reopened(alloc, &files, db.as_slice(), wanted.as_slice())? {
-                Some(true) => olds = true,
-                Some(false) => news = true,
-                None => return format!(in alloc; "stopped after {calls} calls, choice {choice}\n"),
-            }
-        }
+        let disk = ended.disk.inner();
+        found = found_on(alloc, disk, db.as_slice(), wanted.as_slice(), found)?;
     }
-    String::from_str(alloc, "stopped each time\n")
+    let Found {
+        before,
+        after,
+        other,
+    } = found;
+    format!(in alloc; "stopped: before {before}, after {after}, other {other}\n")
 }
 
 /// Runs a call whose words name no file, and tells its lines and its exit code.
