@@ -145,18 +145,39 @@ def read_row(rowid, record):
     return Row(rowid, values[1], values[2], values[3], values[4]) if at == len(record) and values[0] == b"table" else None
 
 
-def read_file(data):
-    """Page size, usable size, page count and rows of a file that is served, else None."""
-    if len(data) < 100 or data[:16] != b"SQLite format 3\0" or data[18:20] != b"\1\1" or data[21:24] != b"\x40\x20\x20":
-        return None
+def sizes(data):
+    """Page size, usable size, page count, and whether the header gives the count."""
     size = 65536 if number(data, 16, 2) == 1 else number(data, 16, 2)
-    usable = size - data[20]
+    given = number(data, 28) != 0 and number(data, 24) == number(data, 92)
+    return size, size - data[20], number(data, 28) if given else len(data) // max(size, 1), given
+
+
+def refusal(data):
+    """The first restriction on header and length that the file breaks, or None."""
+    if not data:
+        return b"empty"
+    if len(data) < 100 or data[:16] != b"SQLite format 3\0" or data[21:24] != b"\x40\x20\x20":
+        return b"not-database"
+    size, usable, count, given = sizes(data)
     if size < 512 or size & (size - 1) or usable < 480:
-        return None
-    if any(number(data, at) for at in (32, 36, 52, 64)) or number(data, 44) > 4 or number(data, 56) > 1:
-        return None
-    count = number(data, 28) if number(data, 28) and number(data, 24) == number(data, 92) else len(data) // size
-    if not 1 <= count <= 65536 or len(data) != count * size or len(data) > 2 ** 28:
+        return b"page-size"
+    if data[18:20] != b"\1\1":
+        return b"wal"
+    if number(data, 52) or number(data, 64):
+        return b"auto-vacuum"
+    if number(data, 56) > 1:
+        return b"encoding"
+    if number(data, 44) > 4:
+        return b"schema-format"
+    if not count or len(data) < count * size or not given and len(data) % size:
+        return b"size"
+    return b"too-large" if count > 65536 or count * size > 2 ** 28 else None
+
+
+def read_file(data):
+    """Page size, usable size, page count and rows of a file that is not refused, if it is served, else None."""
+    size, usable, count, _ = sizes(data)
+    if number(data, 32) or number(data, 36):
         return None
     cells = number(data, 103, 2)
     low = 108 + 2 * cells
@@ -208,8 +229,8 @@ def commit(page, count):
     return page[:24] + counter + count.to_bytes(4, "big") + page[32:40] + cookie + form + page[48:92] + counter + page[96:]
 
 
-def answer(data, journal, script):
-    """The lines, the status and the file that have to come; `data` is None where there is no file."""
+def answer(data, script):
+    """The lines, the status and the file that have to come, beside a cold journal; `data` is None where there is no file."""
     if len(script) > 2 ** 20:
         return b"script 1048576 too-long\n", 2, data
     commands = read_script(script)
@@ -217,9 +238,10 @@ def answer(data, journal, script):
         return b"script 0 unbuilt\n", 2, data
     if data is None:
         return b"fault read\n", 4, data
-    served = None if journal else read_file(data)
+    refused = refusal(data)
+    served = None if refused else read_file(data)
     if not served:
-        return b"file unbuilt\n", 3, data
+        return b"file %s\n" % (refused or b"unbuilt"), 3, data
     size, usable, count, rows = served
     page, lines = data[:size], []
     columns = [[column.lower() for column in read_table(row.text)[1]] for row in rows]

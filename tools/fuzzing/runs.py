@@ -18,7 +18,8 @@ except ImportError:
     sqlite3 = None
 
 LINE = re.compile(rb"(\d+) (ok|refused (?:no-such-table|column-taken|too-many-columns|unbuilt))\n")
-LAST = {2: [b"script 1048576 too-long\n", b"script 0 unbuilt\n"], 3: [b"file unbuilt\n"], 4: [b"fault read\n", b"fault write\n"],
+LAST = {2: [b"script 1048576 too-long\n", b"script 0 unbuilt\n"], 3: [b"file %s\n" % code for code in (b"empty", b"not-database", b"page-size", b"wal", b"auto-vacuum", b"encoding", b"schema-format", b"size",
+                                    b"too-large", b"unbuilt")], 4: [b"fault read\n", b"fault write\n"],
         5: [b"memory\n"], 64: [b"usage: sqlalter FILE\n"]}
 LAST[0] = LAST[1] = [b""]
 
@@ -52,7 +53,7 @@ def faults_of(data, journal, script, status, out, err, after, journal_after):
         "the numbers": [int(at) for at, _ in lines] != list(range(1, len(lines) + 1)),
         "the status of the lines": status in (0, 1) and status != int(done < len(lines)),
         "the file of a refusal": (status not in (0, 1) or done == 0) and after != data,
-        "the journal": (journal_after or b"") != (journal or b""),
+        "the journal": done == 0 and (journal_after or b"") != (journal or b""),
         "the file's length": data is not None and len(after or b"") != len(data),
     }
     if done and not any(wrong.values()):
@@ -60,7 +61,9 @@ def faults_of(data, journal, script, status, out, err, after, journal_after):
         size = 65536 if size == 1 else size
         wrong["the counters"] = any((oracle.number(after, at) - oracle.number(data, at) - done) % 2 ** 32 for at in (24, 40))
         wrong["the other pages"] = after[size:] != data[size:]
-    lines, ended, left = (b"usage: sqlalter FILE\n", 64, data) if script is None else oracle.answer(data, journal, script)
+        wrong["the journal, which is to have one page and zeros for its magic"] = (
+            len(journal_after or b"") != 520 + size or journal_after[:8] != bytes(8) or journal_after[8:12] != b"\0\0\0\1")
+    lines, ended, left = (b"usage: sqlalter FILE\n", 64, data) if script is None else oracle.answer(data, script)
     wrong[f"the lines, where {lines[:300]} should come"] = out != lines
     wrong[f"the status, where {ended} should come"] = status != ended
     wrong["the bytes of the file that should come"] = after != left

@@ -9,6 +9,7 @@ use Rattle.alter_cli.specs.declared.status.Status.{Status}
 use Rattle.alter_cli.specs.declared.status.Status.TheVariants as statuses
 use Rattle.alter_cli.specs.Causes.{CanRun, IsExactly, IsFileRefused, IsUnserved}
 use Rattle.alter_cli.specs.Ending.{WhereSinkTells, WhereTold}
+use Rattle.alter_cli.specs.Left.{Left}
 use Rattle.alter_cli.specs.Outcome.{IsRunStatus, Performed, Printed, run_status}
 use Rattle.alter_cli.specs.Rules.{Rules}
 use Rattle.alter_cli.specs.Stops.{CanRunTold, GaveLines, IsCaused, IsEnd, RanSo, stop_status}
@@ -29,16 +30,16 @@ no_other false status other is done refused same = refused (sym same ∙ is)
 -- What holds of how a call went and of the end of it: its count of the sink's faults rose in the run or at the end.
 module _ {Image Command : Type 0} (rules : Rules Image Command) (rose : Rises) (First Part : Type 0) where
   -- the verdicts, the files and what was printed, where all three tell
-  pub end_performed : (called : Bool) (ran : Result Bool Stop) (status : Status) (text left : Option (List ℕ)) (before after : Option Files)
+  pub end_performed : (called : Bool) (ran : Result Bool Stop) (status : Status) (text left : Option (List ℕ)) (before : Option Files) (could : Files → Type 0) (after : Left)
       (given mid now : Option (List ℕ)) → (First → rose.sink) → (Part → rose.sink)
-      → WhereTold text left before after given mid (RanSo rules (record rose { sink = First }) called ran) → IsEnd Part ran status mid now
-      → WhereTold text left before after given now (λ text left before after given now. Performed rules rose text before after called left given now status)
-  end_performed called (Ok all_done) status text left before after given mid now first later is end =
-      subst (λ n. WhereTold text left before after given n (λ text left before after given now. Performed rules rose text before after called left given now status)) (sym end.1)
-      (subst (λ s. WhereTold text left before after given mid (λ text left before after given now. Performed rules rose text before after called left given now s)) (sym end.0)
-      (performed_told_ok rules rose First called all_done text left before after given mid first is))
-  end_performed called (Err stop) status text left before after given mid now first later is end =
-      performed_told_stop rules rose First Part called stop status text left before after given mid now first later is end.1
+      → WhereTold text left before given mid (RanSo rules (record rose { sink = First }) could after called ran) → IsEnd Part ran status mid now
+      → WhereTold text left before given now (λ text left before given now. Performed rules rose text before could after called left given now status)
+  end_performed called (Ok all_done) status text left before could after given mid now first later is end =
+      subst (λ n. WhereTold text left before given n (λ text left before given now. Performed rules rose text before could after called left given now status)) (sym end.1)
+      (subst (λ s. WhereTold text left before given mid (λ text left before given now. Performed rules rose text before could after called left given now s)) (sym end.0)
+      (performed_told_ok rules rose First called all_done text left before could after given mid first is))
+  end_performed called (Err stop) status text left before could after given mid now first later is end =
+      performed_told_stop rules rose First Part called stop status text left before could after given mid now first later is end.1
 
   -- what was printed, where the sink tells
   pub end_printed : (ran : Result Bool Stop) (status : Status) (text : Option (List ℕ)) (files : Option Files) (given mid now : Option (List ℕ))
@@ -70,9 +71,9 @@ module _ {Image Command : Type 0} (rules : Rules Image Command) (rose : Rises) (
   pub end_file : (ran : Result Bool Stop) (status : Status) (text : Option (List ℕ)) (files : Option Files) (mid now : Option (List ℕ))
       → (First → rose.sink) → (Part → rose.sink) → IfErr ran (IsCaused rules (record rose { sink = First }) text files) → OnOk ran (CanRunTold rules text files)
       → IsEnd Part ran status mid now
-      → IfTold text (λ t. IfTold files (λ f. IsExactly (λ s. s ≡ statuses.File) (IsFileRefused rules t f) (rose.source ⊎ rose.reading ⊎ rose.sink) status))
+      → IfTold text (λ t. IfTold files (λ f. IsExactly (λ s. s ≡ statuses.File) (IsFileRefused rules t f) (AnyRose rose) status))
   end_file (Ok all_done) status text files mid now first later why can end =
-      file_ran rules (rose.source ⊎ rose.reading ⊎ rose.sink) text files status (run_is all_done status end.0) can
+      file_ran rules (AnyRose rose) text files status (run_is all_done status end.0) can
   end_file (Err stop) status text files mid now first later why can end =
       file_stopped rules rose First Part text files stop status first later why end.0
 
@@ -80,9 +81,9 @@ module _ {Image Command : Type 0} (rules : Rules Image Command) (rose : Rises) (
   pub end_run : (ran : Result Bool Stop) (status : Status) (text : Option (List ℕ)) (files : Option Files) (mid now : Option (List ℕ))
       → (First → rose.sink) → (Part → rose.sink) → IfErr ran (IsCaused rules (record rose { sink = First }) text files) → OnOk ran (CanRunTold rules text files)
       → IsEnd Part ran status mid now
-      → IfTold text (λ t. IfTold files (λ f. IsExactly IsRunStatus (CanRun rules t f) (rose.source ⊎ rose.reading ⊎ rose.writing ⊎ rose.sink) status))
+      → IfTold text (λ t. IfTold files (λ f. IsExactly IsRunStatus (CanRun rules t f) (AnyRose rose) status))
   end_run (Ok all_done) status text files mid now first later why can end =
-      run_ran rules (rose.source ⊎ rose.reading ⊎ rose.writing ⊎ rose.sink) text files status (run_is all_done status end.0) can
+      run_ran rules (AnyRose rose) text files status (run_is all_done status end.0) can
   end_run (Err stop) status text files mid now first later why can end =
       run_stopped rules rose First Part text files stop status first later why end.0
 

@@ -10,9 +10,10 @@ use Rattle.alter_cli.specs.declared.stop.Stop.{Stop}
 use Rattle.alter_cli.specs.declared.stop.Stop.TheVariants.{Misused, Unprinted}
 use Rattle.alter_cli.specs.declared.status.Status.{Status}
 use Rattle.alter_cli.specs.declared.status.Status.TheVariants as statuses
-use Rattle.alter_cli.specs.declared.verdict.Verdict.{Verdict}
+use Rattle.plain_schema.specs.declared.verdict.Verdict.{Verdict}
 use Rattle.alter_cli.specs.Ending.{WhereTold}
 use Rattle.alter_cli.specs.Given.{WroteFront}
+use Rattle.alter_cli.specs.Left.{Left}
 use Rattle.alter_cli.specs.Lines.{verdict_lines}
 use Rattle.alter_cli.specs.Outcome.{Outcome, Performed, Told, Misused as MisusedCall, run_status}
 use Rattle.alter_cli.specs.Rules.{Rules}
@@ -93,55 +94,55 @@ if_some (Some x) P is = is
 
 module _ {Image Command : Type 0} (rules : Rules Image Command) where
   -- a failure of the sink in a part of the call is one in the call
-  pub outcome_later : (rose : Rises) (Part : Type 0) (text : List ℕ) (before : Files) (status : Status) (verdicts : List Verdict) (last : List ℕ)
-      (after : Files) (called : Bool) (left : List ℕ) → (Part → rose.sink) → Outcome rules (record rose { sink = Part }) text before status verdicts last after called left
-      → Outcome rules rose text before status verdicts last after called left
-  outcome_later rose Part text before statuses.Fault verdicts last after called left later (inl is) = inl is
-  outcome_later rose Part text before statuses.Fault verdicts last after called left later (inr (inl is)) = inr (inl is)
-  outcome_later rose Part text before statuses.Fault verdicts last after called left later (inr (inr (inl is))) = inr (inr (inl is))
-  outcome_later rose Part text before statuses.Fault verdicts last after called left later (inr (inr (inr is))) =
+  pub outcome_later : (rose : Rises) (Part : Type 0) (text : List ℕ) (before : Files) (could : Files → Type 0) (status : Status) (verdicts : List Verdict) (last : List ℕ)
+      (after : Left) (called : Bool) (left : List ℕ) → (Part → rose.sink) → Outcome rules (record rose { sink = Part }) text before could status verdicts last after called left
+      → Outcome rules rose text before could status verdicts last after called left
+  outcome_later rose Part text before could statuses.Fault verdicts last after called left later (inl is) = inl is
+  outcome_later rose Part text before could statuses.Fault verdicts last after called left later (inr (inl is)) = inr (inl is)
+  outcome_later rose Part text before could statuses.Fault verdicts last after called left later (inr (inr (inl is))) = inr (inr (inl is))
+  outcome_later rose Part text before could statuses.Fault verdicts last after called left later (inr (inr (inr is))) =
       inr (inr (inr (later is.0, is.1, is.2)))
-  outcome_later rose Part text before status verdicts last after called left later is = is
+  outcome_later rose Part text before could status verdicts last after called left later is = is
 
   -- a call that ran its commands is whole
-  pub performed_ok : (rose : Rises) (First : Type 0) (called all_done : Bool) (text left : List ℕ) (before after : Files) (given now : List ℕ)
-      → (First → rose.sink) → RanSo rules (record rose { sink = First }) called (Ok all_done) text left before after given now
-      → Performed rules rose text before after called left given now (run_status all_done)
-  performed_ok rose First called all_done text left before after given now first is = record {
+  pub performed_ok : (rose : Rises) (First : Type 0) (called all_done : Bool) (text left : List ℕ) (before : Files) (could : Files → Type 0) (after : Left) (given now : List ℕ)
+      → (First → rose.sink) → RanSo rules (record rose { sink = First }) could after called (Ok all_done) text left before given now
+      → Performed rules rose text before could after called left given now (run_status all_done)
+  performed_ok rose First called all_done text left before could after given now first is = record {
     planned = run_status all_done;
     verdicts = is.0;
     last = [];
-    outcome = outcome_later rose First text before (run_status all_done) is.0 [] after called left first is.1;
+    outcome = outcome_later rose First text before could (run_status all_done) is.0 [] after called left first is.1;
     told = inl (refl, is.2 ∙ sym (append-nil (given ++ verdict_lines 1 is.0)));
   }
 
   -- a call that stopped behind its verdicts is whole
   stop_whole : (rose : Rises) (First Part : Type 0) (called : Bool) (stop : Stop) (status : Status) (verdicts : List Verdict) (text left : List ℕ)
-      (before after : Files) (given mid now : List ℕ) → (First → rose.sink) → (Part → rose.sink)
-      → Outcome rules (record rose { sink = First }) text before (stop_status stop) verdicts (stop_line stop) after called left
+      (before : Files) (could : Files → Type 0) (after : Left) (given mid now : List ℕ) → (First → rose.sink) → (Part → rose.sink)
+      → Outcome rules (record rose { sink = First }) text before could (stop_status stop) verdicts (stop_line stop) after called left
       → mid ≡ given ++ verdict_lines 1 verdicts → IsLast Part stop status mid now
-      → Performed rules rose text before after called left given now status
-  stop_whole rose First Part called stop status verdicts text left before after given mid now first later is same last = record {
+      → Performed rules rose text before could after called left given now status
+  stop_whole rose First Part called stop status verdicts text left before could after given mid now first later is same last = record {
     planned = stop_status stop;
     verdicts = verdicts;
     last = stop_line stop;
-    outcome = outcome_later rose First text before (stop_status stop) verdicts (stop_line stop) after called left first is;
+    outcome = outcome_later rose First text before could (stop_status stop) verdicts (stop_line stop) after called left first is;
     told = last_told rose Part stop status verdicts given mid now later same last;
   }
 
   -- a call that stopped is whole
-  pub performed_stop : (rose : Rises) (First Part : Type 0) (called : Bool) (stop : Stop) (status : Status) (text left : List ℕ) (before after : Files)
+  pub performed_stop : (rose : Rises) (First Part : Type 0) (called : Bool) (stop : Stop) (status : Status) (text left : List ℕ) (before : Files) (could : Files → Type 0) (after : Left)
       (given mid now : List ℕ) → (First → rose.sink) → (Part → rose.sink)
-      → RanSo rules (record rose { sink = First }) called (Err stop) text left before after given mid → IsLast Part stop status mid now
-      → Performed rules rose text before after called left given now status
-  performed_stop rose First Part called Unprinted status text left before after given mid now first later is last =
+      → RanSo rules (record rose { sink = First }) could after called (Err stop) text left before given mid → IsLast Part stop status mid now
+      → Performed rules rose text before could after called left given now status
+  performed_stop rose First Part called Unprinted status text left before could after given mid now first later is last =
       let (verdicts, verdict, outcome, front) = is.1 in
       let ended = unprinted_end Part status mid now last in
       record {
         planned = statuses.Fault;
         verdicts = verdicts ++ verdict ∷ [];
         last = [];
-        outcome = outcome_later rose First text before statuses.Fault (verdicts ++ verdict ∷ []) [] after called left first outcome;
+        outcome = outcome_later rose First text before could statuses.Fault (verdicts ++ verdict ∷ []) [] after called left first outcome;
         told = inr (
           first is.0,
           ended.0,
@@ -158,34 +159,32 @@ module _ {Image Command : Type 0} (rules : Rules Image Command) where
           ),
         );
       }
-  performed_stop rose First Part called stop status text left before after given mid now first later is last =
-      stop_whole rose First Part called stop status is.0 text left before after given mid now first later is.1 is.2 last
+  performed_stop rose First Part called stop status text left before could after given mid now first later is last =
+      stop_whole rose First Part called stop status is.0 text left before could after given mid now first later is.1 is.2 last
 
   -- a call that ran its commands is whole where all three tell
-  pub performed_told_ok : (rose : Rises) (First : Type 0) (called all_done : Bool) (text left : Option (List ℕ)) (before after : Option Files)
-      (given now : Option (List ℕ)) → (First → rose.sink) → WhereTold text left before after given now (RanSo rules (record rose { sink = First }) called (Ok all_done))
-      → WhereTold text left before after given now (λ text left before after given now. Performed rules rose text before after called left given now (run_status all_done))
-  performed_told_ok rose First called all_done None left before after given now first is = tt
-  performed_told_ok rose First called all_done (Some t) left None after given now first is = tt
-  performed_told_ok rose First called all_done (Some t) left (Some f) after None now first is = tt
-  performed_told_ok rose First called all_done (Some t) None (Some f) after (Some w) now first is = absurd is
-  performed_told_ok rose First called all_done (Some t) (Some l) (Some f) None (Some w) now first is = absurd is
-  performed_told_ok rose First called all_done (Some t) (Some l) (Some f) (Some a) (Some w) None first is = absurd is
-  performed_told_ok rose First called all_done (Some t) (Some l) (Some f) (Some a) (Some w) (Some n) first is =
-      performed_ok rose First called all_done t l f a w n first is
+  pub performed_told_ok : (rose : Rises) (First : Type 0) (called all_done : Bool) (text left : Option (List ℕ)) (before : Option Files) (could : Files → Type 0) (after : Left)
+      (given now : Option (List ℕ)) → (First → rose.sink) → WhereTold text left before given now (RanSo rules (record rose { sink = First }) could after called (Ok all_done))
+      → WhereTold text left before given now (λ text left before given now. Performed rules rose text before could after called left given now (run_status all_done))
+  performed_told_ok rose First called all_done None left before could after given now first is = tt
+  performed_told_ok rose First called all_done (Some t) left None could after given now first is = tt
+  performed_told_ok rose First called all_done (Some t) left (Some f) could after None now first is = tt
+  performed_told_ok rose First called all_done (Some t) None (Some f) could after (Some w) now first is = absurd is
+  performed_told_ok rose First called all_done (Some t) (Some l) (Some f) could after (Some w) None first is = absurd is
+  performed_told_ok rose First called all_done (Some t) (Some l) (Some f) could after (Some w) (Some n) first is =
+      performed_ok rose First called all_done t l f could after w n first is
 
   -- a call that stopped is whole where all three tell
   pub performed_told_stop : (rose : Rises) (First Part : Type 0) (called : Bool) (stop : Stop) (status : Status) (text left : Option (List ℕ))
-      (before after : Option Files) (given mid now : Option (List ℕ)) → (First → rose.sink) → (Part → rose.sink)
-      → WhereTold text left before after given mid (RanSo rules (record rose { sink = First }) called (Err stop))
+      (before : Option Files) (could : Files → Type 0) (after : Left) (given mid now : Option (List ℕ)) → (First → rose.sink) → (Part → rose.sink)
+      → WhereTold text left before given mid (RanSo rules (record rose { sink = First }) could after called (Err stop))
       → IfTold mid (λ m. IsSomeAnd now (IsLast Part stop status m))
-      → WhereTold text left before after given now (λ text left before after given now. Performed rules rose text before after called left given now status)
-  performed_told_stop rose First Part called stop status None left before after given mid now first later is last = tt
-  performed_told_stop rose First Part called stop status (Some t) left None after given mid now first later is last = tt
-  performed_told_stop rose First Part called stop status (Some t) left (Some f) after None mid now first later is last = tt
-  performed_told_stop rose First Part called stop status (Some t) None (Some f) after (Some w) mid now first later is last = absurd is
-  performed_told_stop rose First Part called stop status (Some t) (Some l) (Some f) None (Some w) mid now first later is last = absurd is
-  performed_told_stop rose First Part called stop status (Some t) (Some l) (Some f) (Some a) (Some w) None now first later is last = absurd is
-  performed_told_stop rose First Part called stop status (Some t) (Some l) (Some f) (Some a) (Some w) (Some m) None first later is last = absurd last
-  performed_told_stop rose First Part called stop status (Some t) (Some l) (Some f) (Some a) (Some w) (Some m) (Some n) first later is last =
-      performed_stop rose First Part called stop status t l f a w m n first later is last
+      → WhereTold text left before given now (λ text left before given now. Performed rules rose text before could after called left given now status)
+  performed_told_stop rose First Part called stop status None left before could after given mid now first later is last = tt
+  performed_told_stop rose First Part called stop status (Some t) left None could after given mid now first later is last = tt
+  performed_told_stop rose First Part called stop status (Some t) left (Some f) could after None mid now first later is last = tt
+  performed_told_stop rose First Part called stop status (Some t) None (Some f) could after (Some w) mid now first later is last = absurd is
+  performed_told_stop rose First Part called stop status (Some t) (Some l) (Some f) could after (Some w) None now first later is last = absurd is
+  performed_told_stop rose First Part called stop status (Some t) (Some l) (Some f) could after (Some w) (Some m) None first later is last = absurd last
+  performed_told_stop rose First Part called stop status (Some t) (Some l) (Some f) could after (Some w) (Some m) (Some n) first later is last =
+      performed_stop rose First Part called stop status t l f could after w m n first later is last

@@ -1,96 +1,117 @@
--- The loop over the commands on a file of the first form.
-use Rattle.std.proofs.Common.{◌≡◌, ◌≤◌, ℕ, ◌+◌, ◌*◌, Bool, List, length, take, Option, Some, Err, IsSomeAnd, sym, ◌∙◌, ap, subst, arith}
+-- The loop over the commands on a session.
+use Rattle.std.proofs.Common.{◌≡◌, ◌≤◌, ℕ, ◌+◌, inl, ⊎_elim, Bool, List, take, Option, Err, is_some, IsSomeAnd, refl, sym, ◌∙◌, ap, subst}
+use Rattle.alter_disk.specs.declared.disk.Disk.{Ghosts}
+use Rattle.alter_disk.specs.declared.way.Way.{Way}
+use Rattle.alter_disk.specs.declared.way.Way.TheVariants.{Read, Write}
 use Rattle.alter_disk.specs.Files.{Files}
+use Rattle.alter_disk.specs.Moments.{Leaves, ReadsQuietly}
+use Rattle.alter_disk.specs.Uses.{ReadFailed, WriteFailed}
+use Rattle.rollback_journal.specs.Standing.{standing_by}
+use Rattle.pager_commit.specs.Opens.{Opens, image_by}
 use Rattle.plain_sql.specs.declared.script.Command.{Command}
-use Rattle.plain_sql.specs.Script.{IsPlainCommand}
-use Rattle.alter_cli.specs.declared.form.Form.{Form}
+use Rattle.plain_schema.specs.Image.{Image}
+use Rattle.alter_session.specs.declared.session.Session.{Session}
+use Rattle.alter_session.specs.declared.answer.Outcome.TheVariants as outcomes
+use Rattle.alter_session.specs.Applying.{HasWay, IsQuiet}
+use Rattle.alter_session.specs.Session.{Holds, disk_of}
 use Rattle.alter_cli.specs.declared.stop.Stop.{Stop}
-use Rattle.alter_cli.specs.declared.stop.Stop.TheVariants.{Unwritten, Unprinted, Memory}
-use Rattle.alter_cli.specs.declared.verdict.Verdict.{Verdict}
-use Rattle.alter_cli.specs.Carried.{NotRun, TornFirst, left_by}
+use Rattle.alter_cli.specs.declared.stop.Stop.TheVariants.{Unreadable, Unwritten, Unprinted, Memory}
 use Rattle.alter_cli.specs.Ending.{WhereSinkTells}
-use Rattle.alter_cli.specs.FirstForm.{AreFiles, header_of}
-use Rattle.alter_cli.specs.Header.{page_size}
-use Rattle.alter_cli.specs.Image.{Image}
-use Rattle.alter_cli.specs.Opens.{IsFirstTorn, first_rules}
-use Rattle.alter_cli.specs.Plan.{Advances, verdict_on}
-use Rattle.alter_cli.specs.Served.{IsFormOf, IsReady}
-use Rattle.alter_cli.specs.Step.{Step}
-use Rattle.alter_cli.specs.Stops.{GaveLines, IsRunStop, StoppedAt}
-use Rattle.alter_cli.proofs.ImageLemmas.{has_first, some_page}
-use Rattle.alter_cli.proofs.Printed.{GaveSo, gave_front, gave_memory, gave_unwritten}
-use Rattle.alter_cli.proofs.Reached.{IsNext, Makes, Reached, reached_still, torn_at, unprinted}
-use Rattle.alter_cli.proofs.Stepped.{stepped, stepped_image}
+use Rattle.alter_cli.specs.First.{first_rules}
+use Rattle.alter_cli.specs.Left.{Each, EachCrash, Left, left_on}
+use Rattle.alter_cli.specs.StopOf.{stop_of_way}
+use Rattle.alter_cli.specs.Stops.{GaveLines, IsRunStop, MayHave, NotRun, StoppedAt}
+use Rattle.alter_cli.proofs.OpenLemmas.{crash_since, rest_each}
+use Rattle.alter_cli.proofs.Printed.{GaveSo, gave_front, gave_some}
+use Rattle.alter_cli.proofs.Reached.{IsNext, Reached, reached_still, torn_at, unprinted}
 
--- what a command makes of the image of a form, with the form behind it
-pub makes : (form new : Form) (command : Command) (verdict : Verdict) → IsPlainCommand command → verdict ≡ verdict_on form command
-    → Advances form command verdict new
-    → Makes first_rules (λ image. IsFormOf image form) command verdict (left_by form command verdict) (λ image. IsFormOf image new)
-makes form new command verdict plain decided advances files last are of =
-    subst (λ v. (next : Image) × Step last command v next × AreFiles (left_by form command v files) next × IsFormOf next new) (sym decided)
-    (stepped files last form command new are of plain (subst (λ v. Advances form command v new) decided advances))
+module _ {D : Type 0} (disk : Ghosts D) where
+  -- a session's files, read or left by a crash, open to its image
+  pub holds_each : (image : Image) (session : Session D) → Holds disk image session → Each (left_on disk (disk_of session)) (Opens image)
+  holds_each image session holds =
+      let clean = holds.clean in
+      let files : Files = record { db = clean.base; journal = clean.log } in
+      let told = clean.opened.told in
+      let opens : Opens image files = ap (λ heat. image_by (standing_by heat files)) clean.opened.cold ∙ clean.image_is in
+      let rests = rest_each disk files (disk_of session) (ap is_some told) (record { db = clean.opened.rests.db; journal = clean.opened.rests.journal }) in
+      record {
+        read = subst (λ told. IsSomeAnd told (Opens image)) (sym told) opens;
+        crash = λ c left. subst (Opens image) (sym (rests.crash c left)) opens;
+      }
 
--- the same of any command, whatever the form behind it
-makes_some : (form : Form) (command : Command) → IsPlainCommand command
-    → Makes first_rules (λ image. IsFormOf image form) command (verdict_on form command) (left_by form command (verdict_on form command)) (λ image. Unit {0})
-makes_some form command plain files last are of =
-    let step = stepped_image files last form command are of plain in (step.0, step.1, step.2, tt)
+  -- the disk of a session that was closed
+  pub closed_each : (image : Image) (session : Session D) (d : D) → d ≡ disk_of session → Holds disk image session → Each (left_on disk d) (Opens image)
+  closed_each image session d same holds = subst (λ d. Each (left_on disk d) (Opens image)) (sym same) (holds_each image session holds)
 
--- page 1 of the form is a whole page of the files
-page_length : (files : Files) (image : Image) (form : Form) → AreFiles files image → IsFormOf image form → IsReady form
-    → (length form.page ≡ page_size (take 100 files.db)) × (length form.page ≤ length files.db)
-page_length files image form are of ready =
-    let first = has_first files image are (some_page image (length image * page_size (header_of image)) of.first.stored.header) in
-    let long = ready.page ∙ of.size ∙ ap page_size first.header in
-    (long, omega (arith, first.extent))
+  -- calls that only read leave files that open to the session's image
+  pub read_each : (image : Image) (session : Session D) (d : D) → ReadsQuietly disk (disk_of session) d → Holds disk image session
+      → Each (left_on disk d) (Opens image)
+  read_each image session d quiet holds =
+      let each = holds_each image session holds in
+      record {
+        read = subst (λ told. IsSomeAnd told (Opens image)) (sym quiet.only.files) each.read;
+        crash = λ c left. each.crash c (quiet.crash c left);
+      }
 
--- page 1 of the files with the form's image may be torn
-torn_first : (form : Form) (before after : Option Files) → IsReady form → TornFirst (length form.page) before after
-    → (files : Files) (last : Image) → AreFiles files last → IsFormOf last form → before ≡ Some files
-    → IsSomeAnd after (IsFirstTorn (page_size (take 100 files.db)) files)
-torn_first form before after ready torn files last are of told =
-    let long = page_length files last form are of ready in
-    let left = subst (λ b. TornFirst (length form.page) b after) told torn in
-    subst (λ (n : ℕ). IsSomeAnd after (IsFirstTorn n files)) long.0 (left long.1)
+  module _ (counts_now : (d : D) (t : ℕ) (c : Files) → t ≤ disk.moment d → disk.may_leave d c → disk.left_since d t c)
+      (only_now : (d : D) (c : Files) → disk.left_since d (disk.moment d) c → disk.may_leave d c) where
+    -- what a crash may leave of a command that was not ended
+    pub written_each : (image : Image) (session : Session D) (d : D) (command : Command) → Holds disk image session
+        → Leaves disk (disk_of session) d (MayHave first_rules image command) → EachCrash (left_on disk d) (MayHave first_rules image command)
+    written_each image session d command holds run c left =
+        ⊎_elim (λ before. inl ((holds_each image session holds).crash c before)) (λ now. now)
+        (crash_since disk counts_now only_now (disk_of session) d (MayHave first_rules image command) run c left)
+
+    -- a command that failed
+    pub failed_run : (Sunk : Type 0) (session : Session D) (d : D) (way : Way) (number : ℕ) (command : Command) (had : Option (List ℕ))
+        → IsQuiet disk (disk_of session) (outcomes.Failed d way) → HasWay disk (disk_of session) (outcomes.Failed d way)
+        → ((image : Image) → Holds disk image session → Leaves disk (disk_of session) d (MayHave first_rules image command))
+        → NotRun first_rules (ReadFailed disk (disk_of session) d) (WriteFailed disk (disk_of session) d) Sunk (λ image. Holds disk image session) number command
+        (left_on disk d) had had (stop_of_way way)
+    failed_run Sunk session d Read number command had quiet why stops =
+        (why, (λ image holds. read_each image session d quiet holds), refl)
+    failed_run Sunk session d Write number command had quiet why stops =
+        (why, (λ image holds. written_each image session d command holds (stops image holds)), refl)
 
 -- why not all commands were run
-pub reached_stop : (Part Shut Write Sunk : Type 0) (image : Image) (commands : List Command) (given : List ℕ) (place number : ℕ) (command : Command)
-    (form : Form) (before after : Option Files) (had now : Option (List ℕ)) (all_done : Bool) (stop : Stop) → (Part → Write) → (Shut → Sunk)
-    → IsNext commands place number command → IsPlainCommand command → IsReady form → NotRun Part Shut form number command before after had now stop
-    → Reached first_rules (λ i. IsFormOf i form) image (take place commands) given before had all_done
-    → StoppedAt first_rules Write Sunk image commands given after now stop
-reached_stop Part Shut Write Sunk image commands given place number command form before after had now all_done Memory wrote sunk next plain ready why reached =
-    reached_still first_rules (λ i. IsFormOf i form) image commands given place before after had now all_done why.0 why.1 reached
-reached_stop Part Shut Write Sunk image commands given place number command form before after had now all_done Unwritten wrote sunk next plain ready why reached =
-    let torn = torn_first form before after ready why.2 in
-    let done = subst (λ v. Makes first_rules (λ i. IsFormOf i form) command v (left_by form command (verdict_on form command)) (λ i. Unit {0})) why.1
-    (makes_some form command plain) in (
-      wrote why.0,
-      torn_at first_rules (λ i. IsFormOf i form) (λ i. Unit {0}) (left_by form command (verdict_on form command)) image commands given place number command
-          before after had now all_done next done torn why.3 reached,
-    )
-reached_stop Part Shut Write Sunk image commands given place number command form before after had now all_done Unprinted wrote sunk next plain ready why reached =
-    let verdict = verdict_on form command in (
-      sunk why.0,
-      unprinted first_rules (λ i. IsFormOf i form) (λ i. Unit {0}) (left_by form command verdict) image commands given place number command verdict
-          before after had now all_done next (makes_some form command plain) why.1 why.2 reached,
-    )
-reached_stop Part Shut Write Sunk image commands given place number command form before after had now all_done stop wrote sunk next plain ready why reached = absurd why
+pub reached_stop : (Reads Writes Sinks Read_all Write_all Sink_all : Type 0) (IsOf : Image → Type 0) (image : Image) (commands : List Command) (given had now : Option (List ℕ))
+    (place number : ℕ) (command : Command) (after : Left) (all_done : Bool) (stop : Stop) → (Reads → Read_all) → (Writes → Write_all) → (Sinks → Sink_all)
+    → IsNext commands place number command → NotRun first_rules Reads Writes Sinks IsOf number command after had now stop
+    → Reached first_rules IsOf image (take place commands) given had all_done
+    → StoppedAt first_rules Read_all Write_all Sink_all image commands given after now stop
+reached_stop Reads Writes Sinks Read_all Write_all Sink_all IsOf image commands given had now place number command after all_done Memory read write sunk next why reached =
+    reached_still first_rules IsOf image commands given place number command had now all_done next reached after why.0 why.1
+reached_stop Reads Writes Sinks Read_all Write_all Sink_all IsOf image commands given had now place number command after all_done Unreadable read write sunk next why reached =
+    (read why.0, reached_still first_rules IsOf image commands given place number command had now all_done next reached after why.1 why.2)
+reached_stop Reads Writes Sinks Read_all Write_all Sink_all IsOf image commands given had now place number command after all_done Unwritten read write sunk next why reached =
+    (write why.0, torn_at first_rules IsOf image commands given place number command had now all_done next reached after why.1 why.2)
+reached_stop Reads Writes Sinks Read_all Write_all Sink_all IsOf image commands given had now place number command after all_done Unprinted read write sunk next why reached =
+    let (verdict, makes, front) = why.1 in
+    (sunk why.0, unprinted first_rules IsOf image commands given place number command had now all_done next reached after verdict makes front)
+reached_stop Reads Writes Sinks Read_all Write_all Sink_all IsOf image commands given had now place number command after all_done stop read write sunk next why reached = absurd why
 
 -- the cause of a stop
-pub run_cause : (Part Shut Write Sunk : Type 0) (form : Form) (number : ℕ) (command : Command) (before after : Option Files) (had now : Option (List ℕ))
-    (stop : Stop) → (Part → Write) → (Shut → Sunk) → NotRun Part Shut form number command before after had now stop → IsRunStop Write Sunk stop
-run_cause Part Shut Write Sunk form number command before after had now Memory wrote sunk why = tt
-run_cause Part Shut Write Sunk form number command before after had now Unwritten wrote sunk why = wrote why.0
-run_cause Part Shut Write Sunk form number command before after had now Unprinted wrote sunk why = sunk why.0
-run_cause Part Shut Write Sunk form number command before after had now stop wrote sunk why = absurd why
+pub run_cause : (Reads Writes Sinks Read_all Write_all Sink_all : Type 0) (IsOf : Image → Type 0) (number : ℕ) (command : Command) (after : Left) (had now : Option (List ℕ))
+    (stop : Stop) → (Reads → Read_all) → (Writes → Write_all) → (Sinks → Sink_all) → NotRun first_rules Reads Writes Sinks IsOf number command after had now stop
+    → IsRunStop Read_all Write_all Sink_all stop
+run_cause Reads Writes Sinks Read_all Write_all Sink_all IsOf number command after had now Memory read write sunk why = tt
+run_cause Reads Writes Sinks Read_all Write_all Sink_all IsOf number command after had now Unreadable read write sunk why = read why.0
+run_cause Reads Writes Sinks Read_all Write_all Sink_all IsOf number command after had now Unwritten read write sunk why = write why.0
+run_cause Reads Writes Sinks Read_all Write_all Sink_all IsOf number command after had now Unprinted read write sunk why = sunk why.0
+run_cause Reads Writes Sinks Read_all Write_all Sink_all IsOf number command after had now stop read write sunk why = absurd why
 
 -- what the sink was given before a command stopped
-pub gave_stop : (Part Shut Sunk : Type 0) (form : Form) (count number : ℕ) (command : Command) (before after : Option Files)
-    (given had now : Option (List ℕ)) (all_done : Bool) (stop : Stop) → (Shut → Sunk) → number ≡ count + 1 → NotRun Part Shut form number command before after had now stop
-    → WhereSinkTells given had (GaveSo count all_done) → WhereSinkTells given now (λ g n. GaveLines Sunk g n (Err stop))
-gave_stop Part Shut Sunk form count number command before after given had now all_done Memory shut at why is = gave_memory Sunk given had now count all_done why.1 is
-gave_stop Part Shut Sunk form count number command before after given had now all_done Unwritten shut at why is = gave_unwritten Sunk given had now count all_done why.3 is
-gave_stop Part Shut Sunk form count number command before after given had now all_done Unprinted shut at why is =
-    gave_front Sunk given had now count number all_done (verdict_on form command) (shut why.0) at why.2 is
-gave_stop Part Shut Sunk form count number command before after given had now all_done stop shut at why is = absurd why
+pub gave_stop : (Reads Writes Sinks Sink_all : Type 0) (IsOf : Image → Type 0) (count number : ℕ) (command : Command) (after : Left)
+    (given had now : Option (List ℕ)) (all_done : Bool) (stop : Stop) → (Sinks → Sink_all) → number ≡ count + 1
+    → NotRun first_rules Reads Writes Sinks IsOf number command after had now stop
+    → WhereSinkTells given had (GaveSo count all_done) → WhereSinkTells given now (λ g n. GaveLines Sink_all g n (Err stop))
+gave_stop Reads Writes Sinks Sink_all IsOf count number command after given had now all_done Memory sunk at why is =
+    gave_some Sink_all given had now count all_done Memory why.1 is (λ g n verdicts lines. (verdicts, lines))
+gave_stop Reads Writes Sinks Sink_all IsOf count number command after given had now all_done Unreadable sunk at why is =
+    gave_some Sink_all given had now count all_done Unreadable why.2 is (λ g n verdicts lines. (verdicts, lines))
+gave_stop Reads Writes Sinks Sink_all IsOf count number command after given had now all_done Unwritten sunk at why is =
+    gave_some Sink_all given had now count all_done Unwritten why.2 is (λ g n verdicts lines. (verdicts, lines))
+gave_stop Reads Writes Sinks Sink_all IsOf count number command after given had now all_done Unprinted sunk at why is =
+    let (verdict, makes, front) = why.1 in
+    gave_front Sink_all given had now count number all_done verdict (sunk why.0) at front is
+gave_stop Reads Writes Sinks Sink_all IsOf count number command after given had now all_done stop sunk at why is = absurd why

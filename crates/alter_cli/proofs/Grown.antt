@@ -1,7 +1,8 @@
 -- Runs, lines and fronts of a list that grow at their end.
 use Rattle.std.proofs.Common.{◌≡◌, ℕ, suc, ◌+◌, List, [], ◌∷◌, ◌++◌, length, refl, sym, ◌∙◌, ap, subst, arith, append-nil, append_assoc}
-use Rattle.alter_cli.specs.declared.verdict.Verdict.{Verdict}
-use Rattle.alter_cli.specs.Lines.{verdict_line, verdict_lines}
+use Rattle.plain_schema.specs.declared.verdict.Verdict.{Verdict}
+use Rattle.alter_cli.specs.Lines.{verdict_lines}
+use Rattle.plain_schema.specs.Verdicts.{verdict_line}
 use Rattle.alter_cli.specs.Rules.{Rules}
 use Rattle.alter_cli.specs.Run.{Run}
 

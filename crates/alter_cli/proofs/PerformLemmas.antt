@@ -7,163 +7,186 @@ use Rattle.alter_disk.specs.Changes.{IfTold}
 use Rattle.alter_disk.specs.Outside.{Rises}
 use Rattle.alter_cli.specs.declared.stop.Stop.{Stop}
 use Rattle.alter_cli.specs.declared.stop.Stop.TheVariants.{TooLong, Unspelled, Unread, Unserved, Unreadable, Unwritten, Unprinted, Memory}
-use Rattle.alter_cli.specs.declared.verdict.Verdict.{Verdict}
+use Rattle.plain_schema.specs.declared.verdict.Verdict.{Verdict}
 use Rattle.alter_cli.specs.declared.status.Status.TheVariants as statuses
 use Rattle.alter_cli.specs.Ending.{WhereTold}
+use Rattle.alter_cli.specs.Left.{Each, EachCrash, Left}
 use Rattle.alter_cli.specs.Lines.{verdict_lines}
-use Rattle.alter_cli.specs.Outcome.{IsNextDone, IsServed, Outcome, Ran, is_done, run_status}
+use Rattle.alter_cli.specs.Outcome.{HasRun, IsBetween, IsServed, IsUntouched, Outcome, Ran, run_status}
 use Rattle.alter_cli.specs.Rules.{Rules}
 use Rattle.alter_cli.specs.Run.{Run}
-use Rattle.alter_cli.specs.Stops.{NoForm, NoScript, OfImage, OpensOf, RanEach, RanSo, StoppedAt, TornAt, UnprintedAt}
+use Rattle.alter_cli.specs.Stops.{IsNear, NoScript, NoSession, OpensOf, RanEach, RanSo, RanSome, StoppedAt, TornAt, UnprintedAt}
+use Rattle.plain_schema.specs.Verdicts.{is_done}
 
 -- nothing was printed
 none_printed : (w : List ℕ) → w ≡ w ++ verdict_lines 1 []
 none_printed w = sym (append-nil w)
 
 module _ {Image Command : Type 0} (rules : Rules Image Command) where
+  -- the disk was not called
+  untouched : (f : Files) (old : Left) → old.reads ≡ Some f → IsUntouched f old.crash old
+  untouched f old reads = record { read = reads; crash = λ c left. left }
+
   -- there was no script
-  pub no_script : (rose : Rises) (text left : Option (List ℕ)) (files : Option Files) (given : Option (List ℕ)) (called : Bool) (stop : Stop)
+  pub no_script : (rose : Rises) (text left : Option (List ℕ)) (old : Left) (given : Option (List ℕ)) (called : Bool) (stop : Stop)
       → called ≡ false → is_some left ≡ is_some text → NoScript rules rose.source text left stop
-      → WhereTold text left files files given given (RanSo rules rose called (Err stop))
-  no_script rose None left files given called stop fresh tells why = tt
-  no_script rose (Some t) left None given called stop fresh tells why = tt
-  no_script rose (Some t) left (Some f) None called stop fresh tells why = tt
-  no_script rose (Some t) None (Some f) (Some w) called stop fresh tells why = absurd cc
-  no_script rose (Some t) (Some l) (Some f) (Some w) called TooLong fresh tells why =
-      ([], (refl, refl, fresh, inl (why.0, refl, same_Some _ _ why.1)), none_printed w)
-  no_script rose (Some t) (Some l) (Some f) (Some w) called Unspelled fresh tells why =
-      ([], (refl, refl, fresh, inr (why.0, why.1, refl, same_Some _ _ why.2)), none_printed w)
-  no_script rose (Some t) (Some l) (Some f) (Some w) called Unread fresh tells why =
-      ([], inl (why, refl, refl, refl, fresh), none_printed w)
-  no_script rose (Some t) (Some l) (Some f) (Some w) called Memory fresh tells why = ([], (inl (refl, refl), refl), none_printed w)
-  no_script rose (Some t) (Some l) (Some f) (Some w) called stop fresh tells why = absurd why
+      → WhereTold text left old.reads given given (RanSo rules rose old.crash old called (Err stop))
+  no_script rose text left old given called stop fresh tells why = at text left old.reads given stop refl tells why
+    where
+      at : (text left : Option (List ℕ)) (files : Option Files) (given : Option (List ℕ)) (stop : Stop) → old.reads ≡ files → is_some left ≡ is_some text
+          → NoScript rules rose.source text left stop → WhereTold text left files given given (RanSo rules rose old.crash old called (Err stop))
+      at None left files given stop reads tells why = tt
+      at (Some t) left None given stop reads tells why = tt
+      at (Some t) left (Some f) None stop reads tells why = tt
+      at (Some t) None (Some f) (Some w) stop reads tells why = absurd cc
+      at (Some t) (Some l) (Some f) (Some w) TooLong reads tells why =
+          ([], (refl, untouched f old reads, fresh, inl (why.0, refl, same_Some _ _ why.1)), none_printed w)
+      at (Some t) (Some l) (Some f) (Some w) Unspelled reads tells why =
+          ([], (refl, untouched f old reads, fresh, inr (why.0, why.1, refl, same_Some _ _ why.2)), none_printed w)
+      at (Some t) (Some l) (Some f) (Some w) Unread reads tells why =
+          ([], inl (why, refl, untouched f old reads, refl, fresh), none_printed w)
+      at (Some t) (Some l) (Some f) (Some w) Memory reads tells why = ([], (inl (refl, λ c is. inl is), refl), none_printed w)
+      at (Some t) (Some l) (Some f) (Some w) stop reads tells why = absurd why
 
   -- the commands that were read, and that all the script is read
   abbrev pub Commands_read : Option (List ℕ) → Option (List ℕ) → List Command → Type 0
   Commands_read text left commands = IfTold text (λ t. IsServed rules t commands × (left ≡ Some []))
 
-  -- there was no form, where all three tell
-  form_stop : (rose : Rises) (t : List ℕ) (f : Files) (w : List ℕ) (called : Bool) (commands : List Command) (stop : Stop)
-      → called ≡ true → IsServed rules t commands → NoForm rules rose.reading (Some f) stop → RanSo rules rose called (Err stop) t [] f f w w
-  form_stop rose t f w called commands Unserved was served why =
-      ([], (refl, refl, was, refl, refl, (commands, served), why), none_printed w)
-  form_stop rose t f w called commands Unreadable was served why =
-      ([], inr (inl (why, (commands, served), refl, refl, refl, was)), none_printed w)
-  form_stop rose t f w called commands Memory was served why = ([], (inl (refl, refl), refl), none_printed w)
-  form_stop rose t f w called commands stop was served why = absurd why
+  -- the files were not opened, where all three tell
+  session_stop : (rose : Rises) (t : List ℕ) (f : Files) (w : List ℕ) (could : Files → Type 0) (new : Left) (called : Bool) (commands : List Command) (stop : Stop)
+      → called ≡ true → IsServed rules t commands → NoSession rules rose.reading rose.writing (record { reads = Some f; crash = could }) new stop
+      → RanSo rules rose could new called (Err stop) t [] f w w
+  session_stop rose t f w could new called commands (Unserved code) was served why =
+      ([], (refl, code, why.refused, refl, why.rests, was, refl, (commands, served), why.unserved), none_printed w)
+  session_stop rose t f w could new called commands Unreadable was served why =
+      ([], inr (inl (why.0, (commands, served), inl (refl, why.1), refl, was)), none_printed w)
+  session_stop rose t f w could new called commands Unwritten was served why =
+      ([], inr (inr (inl (why.0, (commands, served), inl (refl, why.1), refl, was))), none_printed w)
+  session_stop rose t f w could new called commands Memory was served why = ([], (inl (refl, why), refl), none_printed w)
+  session_stop rose t f w could new called commands stop was served why = absurd why
 
-  -- there was no form
-  pub no_form : (rose : Rises) (text left : Option (List ℕ)) (before after : Option Files) (given : Option (List ℕ)) (called : Bool)
-      (commands : List Command) (stop : Stop) → called ≡ true → Commands_read text left commands → after ≡ before → NoForm rules rose.reading before stop
-      → WhereTold text left before after given given (RanSo rules rose called (Err stop))
-  no_form rose None left before after given called commands stop was served same why = tt
-  no_form rose (Some t) left None after given called commands stop was served same why = tt
-  no_form rose (Some t) left (Some f) after None called commands stop was served same why = tt
-  no_form rose (Some t) left (Some f) after (Some w) called commands stop was served same why =
-      subst (λ l. WhereTold (Some t) l (Some f) after (Some w) (Some w) (RanSo rules rose called (Err stop))) (sym served.1)
-      (subst (λ a. WhereTold (Some t) (Some []) (Some f) a (Some w) (Some w) (RanSo rules rose called (Err stop))) (sym same)
-      (form_stop rose t f w called commands stop was served.0 why))
+  -- the files were not opened
+  pub no_session : (rose : Rises) (text left : Option (List ℕ)) (before : Option Files) (could : Files → Type 0) (new : Left) (given : Option (List ℕ)) (called : Bool)
+      (commands : List Command) (stop : Stop) → called ≡ true → Commands_read text left commands
+      → NoSession rules rose.reading rose.writing (record { reads = before; crash = could }) new stop
+      → WhereTold text left before given given (RanSo rules rose could new called (Err stop))
+  no_session rose None left before could new given called commands stop was served why = tt
+  no_session rose (Some t) left None could new given called commands stop was served why = tt
+  no_session rose (Some t) left (Some f) could new None called commands stop was served why = tt
+  no_session rose (Some t) left (Some f) could new (Some w) called commands stop was served why =
+      subst (λ l. WhereTold (Some t) l (Some f) (Some w) (Some w) (RanSo rules rose could new called (Err stop))) (sym served.1)
+      (session_stop rose t f w could new called commands stop was served.0 why)
 
   -- the script and the image that the commands are run on, and that the disk was called
   record IsStart (t : List ℕ) (f : Files) (called : Bool) (commands : List Command) (image : Image) : Type 0 where
     was : called ≡ true
     served : IsServed rules t commands
-    opens : rules.Opens f image
+    serves : rules.Serves f image
 
   -- the first so many commands were run
   ran_of : (t : List ℕ) (f : Files) (called : Bool) (commands : List Command) (image : Image) (count : ℕ) (verdicts : List Verdict) (last : Image) → IsStart t f called commands image
       → Run rules image (take count commands) verdicts last → Ran rules t f count verdicts last
-  ran_of t f called commands image count verdicts last start run = record { commands = commands; served = start.served; image = image; opens = start.opens; run = run }
+  ran_of t f called commands image count verdicts last start run = record { commands = commands; served = start.served; image = image; serves = start.serves; run = run }
 
   -- all commands were run
-  ran_each : (rose : Rises) (t : List ℕ) (f : Files) (w : List ℕ) (called : Bool) (commands : List Command) (image : Image)
-      (after : Option Files) (now : Option (List ℕ)) (all_done : Bool) → IsStart t f called commands image → RanEach rules image commands w after now all_done
-      → IsSomeAnd after (λ a. IsSomeAnd now (λ n. RanSo rules rose called (Ok all_done) t [] f a w n))
-  ran_each rose t f w called commands image after now all_done start each =
+  ran_each : (rose : Rises) (t : List ℕ) (f : Files) (w : List ℕ) (could : Files → Type 0) (after : Left) (called : Bool) (commands : List Command) (image : Image)
+      (now : Option (List ℕ)) (all_done : Bool) → IsStart t f called commands image → RanEach rules image commands (Some w) after now all_done
+      → IsSomeAnd now (λ n. RanSo rules rose could after called (Ok all_done) t [] f w n)
+  ran_each rose t f w could after called commands image now all_done start each =
       let (verdicts, ran, all) = each in
-      subst (λ a. IsSomeAnd a (λ a. IsSomeAnd now (λ n. RanSo rules rose called (Ok all_done) t [] f a w n))) (sym ran.told)
-      (subst (λ n. IsSomeAnd n (λ n. RanSo rules rose called (Ok all_done) t [] f ran.files w n)) (sym ran.lines)
-      (verdicts, outcome all_done verdicts ran.last ran.files ran.run ran.are (sym all), refl))
+      subst (λ n. IsSomeAnd n (λ n. RanSo rules rose could after called (Ok all_done) t [] f w n)) (sym ran.lines)
+      (verdicts, outcome all_done verdicts ran.last ran.run ran.files (sym all), refl)
     where
-      outcome : (b : Bool) (verdicts : List Verdict) (last : Image) (files : Files) → Run rules image commands verdicts last → rules.AreFiles files last
-          → list_all is_done verdicts ≡ b → Outcome rules rose t f (run_status b) verdicts [] files called []
-      outcome true verdicts last files run are all =
-          (last, record { commands = commands; served = start.served; image = image; opens = start.opens; run = run }, are, all, refl, refl, start.was)
-      outcome false verdicts last files run are all =
-          (last, record { commands = commands; served = start.served; image = image; opens = start.opens; run = run }, are, all, refl, refl, start.was)
+      outcome : (b : Bool) (verdicts : List Verdict) (last : Image) → Run rules image commands verdicts last → Each after (rules.OpensTo last)
+          → list_all is_done verdicts ≡ b → Outcome rules rose t f could (run_status b) verdicts [] after called []
+      outcome true verdicts last run each all =
+          (last, record { commands = commands; served = start.served; image = image; serves = start.serves; run = run }, each, all, refl, refl, start.was)
+      outcome false verdicts last run each all =
+          (last, record { commands = commands; served = start.served; image = image; serves = start.serves; run = run }, each, all, refl, refl, start.was)
+
+  -- files that are near the image are between it and the next
+  between : (t : List ℕ) (commands : List Command) (count : ℕ) (last : Image) (c : Files) → IsServed rules t commands → IsNear rules commands count last c
+      → IsBetween rules t count last c
+  between t commands count last c served (inl is) = inl is
+  between t commands count last c served (inr is) =
+      let (command, next, (new, step, opens)) = is in
+      inr (new, record { commands = commands; served = served; command = command; next = next; step = step }, opens)
 
   -- the write of a command was torn
-  ran_torn : (rose : Rises) (t : List ℕ) (f : Files) (w : List ℕ) (called : Bool) (commands : List Command) (image : Image)
-      (after : Option Files) (now : Option (List ℕ)) → IsStart t f called commands image → rose.writing → TornAt rules image commands w after now
-      → IsSomeAnd after (λ a. IsSomeAnd now (λ n. RanSo rules rose called (Err Unwritten) t [] f a w n))
-  ran_torn rose t f w called commands image None now start write at = absurd at.torn
-  ran_torn rose t f w called commands image (Some a) now start write at =
-      let ran = at.ran in
-      let are = subst (λ g. rules.AreFiles g ran.last) (sym (same_Some at.files ran.files ran.told)) ran.are in
-      let next : IsNextDone rules t at.count ran.last =
-      record { commands = commands; served = start.served; command = at.command; next = at.next; new = at.new; step = at.step } in
-      let before = ran_of t f called commands image at.count at.verdicts ran.last start ran.run in
-      subst (λ n. IsSomeAnd n (λ n. RanSo rules rose called (Err Unwritten) t [] f a w n)) (sym ran.lines)
-      (at.verdicts, inr (inr (inl (write, (at.count, ran.last, at.files, before, are, next, at.torn), refl, start.was))), refl)
+  ran_torn : (rose : Rises) (t : List ℕ) (f : Files) (w : List ℕ) (could : Files → Type 0) (after : Left) (called : Bool) (commands : List Command) (image : Image)
+      (now : Option (List ℕ)) → IsStart t f called commands image → rose.writing → TornAt rules image commands (Some w) after now
+      → IsSomeAnd now (λ n. RanSo rules rose could after called (Err Unwritten) t [] f w n)
+  ran_torn rose t f w could after called commands image now start write at =
+      let before = ran_of t f called commands image at.count at.verdicts at.last start at.run in
+      let near : EachCrash after (IsBetween rules t at.count at.last) = λ c left. between t commands at.count at.last c start.served (at.files c left) in
+      subst (λ n. IsSomeAnd n (λ n. RanSo rules rose could after called (Err Unwritten) t [] f w n)) (sym at.lines)
+      (at.verdicts, inr (inr (inl (write, (commands, start.served), inr (at.count, at.last, before, near), refl, start.was))), refl)
 
   -- the line of a command was not printed
-  ran_unprinted : (rose : Rises) (t : List ℕ) (f : Files) (w : List ℕ) (called : Bool) (commands : List Command) (image : Image)
-      (after : Option Files) (now : Option (List ℕ)) → IsStart t f called commands image → rose.sink → UnprintedAt rules image commands w after now
-      → IsSomeAnd after (λ a. IsSomeAnd now (λ n. RanSo rules rose called (Err Unprinted) t [] f a w n))
-  ran_unprinted rose t f w called commands image after now start sunk at =
+  ran_unprinted : (rose : Rises) (t : List ℕ) (f : Files) (w : List ℕ) (could : Files → Type 0) (after : Left) (called : Bool) (commands : List Command) (image : Image)
+      (now : Option (List ℕ)) → IsStart t f called commands image → rose.sink → UnprintedAt rules image commands (Some w) after now
+      → IsSomeAnd now (λ n. RanSo rules rose could after called (Err Unprinted) t [] f w n)
+  ran_unprinted rose t f w could after called commands image now start sunk at =
       let all = at.verdicts ++ at.verdict ∷ [] in
       let front = at.front in
       let before = ran_of t f called commands image at.count all at.last start at.run in
-      let outcome : Outcome rules rose t f statuses.Fault all [] at.files called [] =
-      inr (inr (inr (sunk, inr (at.count, at.last, before, at.are, start.was), refl))) in
-      subst (λ a. IsSomeAnd a (λ a. IsSomeAnd now (λ n. RanSo rules rose called (Err Unprinted) t [] f a w n))) (sym at.told)
-      (subst (λ n. IsSomeAnd n (λ n. RanSo rules rose called (Err Unprinted) t [] f at.files w n)) (sym front.written)
-      (sunk, (at.verdicts, at.verdict, outcome, record { front = front.front; rest = front.rest; written = refl; whole = front.whole })))
+      let outcome : Outcome rules rose t f could statuses.Fault all [] after called [] =
+      inr (inr (inr (sunk, (at.count, at.last, before, at.files, start.was), refl))) in
+      subst (λ n. IsSomeAnd n (λ n. RanSo rules rose could after called (Err Unprinted) t [] f w n)) (sym front.written)
+      (sunk, (at.verdicts, at.verdict, outcome, record { front = front.front; rest = front.rest; written = refl; whole = front.whole }))
+
+  -- some commands were run
+  ran_some : (t : List ℕ) (f : Files) (w : List ℕ) (after : Left) (called : Bool) (commands : List Command) (image : Image)
+      (now : Option (List ℕ)) → IsStart t f called commands image → RanSome rules image commands (Some w) after now
+      → (verdicts : List Verdict) × HasRun rules t f verdicts after called × (now ≡ Some (w ++ verdict_lines 1 verdicts))
+  ran_some t f w after called commands image now start some =
+      let (count, verdicts, ran) = some in
+      (verdicts, (count, ran.last, ran_of t f called commands image count verdicts ran.last start ran.run, ran.files, start.was), ran.lines)
 
   -- the run of the commands was stopped
-  ran_stop : (rose : Rises) (t : List ℕ) (f : Files) (w : List ℕ) (called : Bool) (commands : List Command) (image : Image)
-      (after : Option Files) (now : Option (List ℕ)) (stop : Stop) → IsStart t f called commands image → StoppedAt rules rose.writing rose.sink image commands w after now stop
-      → IsSomeAnd after (λ a. IsSomeAnd now (λ n. RanSo rules rose called (Err stop) t [] f a w n))
-  ran_stop rose t f w called commands image after now Memory start why =
-      let (count, verdicts, ran) = why in
-      let before = ran_of t f called commands image count verdicts ran.last start ran.run in
-      subst (λ a. IsSomeAnd a (λ a. IsSomeAnd now (λ n. RanSo rules rose called (Err Memory) t [] f a w n))) (sym ran.told)
-      (subst (λ n. IsSomeAnd n (λ n. RanSo rules rose called (Err Memory) t [] f ran.files w n)) (sym ran.lines)
-      (verdicts, (inr (count, ran.last, before, ran.are, start.was), refl), refl))
-  ran_stop rose t f w called commands image after now Unwritten start why =
-      ran_torn rose t f w called commands image after now start why.0 why.1
-  ran_stop rose t f w called commands image after now Unprinted start why =
-      ran_unprinted rose t f w called commands image after now start why.0 why.1
-  ran_stop rose t f w called commands image after now stop start why = absurd why
+  ran_stop : (rose : Rises) (t : List ℕ) (f : Files) (w : List ℕ) (could : Files → Type 0) (after : Left) (called : Bool) (commands : List Command) (image : Image)
+      (now : Option (List ℕ)) (stop : Stop) → IsStart t f called commands image → StoppedAt rules rose.reading rose.writing rose.sink image commands (Some w) after now stop
+      → IsSomeAnd now (λ n. RanSo rules rose could after called (Err stop) t [] f w n)
+  ran_stop rose t f w could after called commands image now Memory start why =
+      let (verdicts, ran, lines) = ran_some t f w after called commands image now start why in
+      subst (λ n. IsSomeAnd n (λ n. RanSo rules rose could after called (Err Memory) t [] f w n)) (sym lines)
+      (verdicts, (inr ran, refl), refl)
+  ran_stop rose t f w could after called commands image now Unreadable start why =
+      let (verdicts, ran, lines) = ran_some t f w after called commands image now start why.1 in
+      subst (λ n. IsSomeAnd n (λ n. RanSo rules rose could after called (Err Unreadable) t [] f w n)) (sym lines)
+      (verdicts, inr (inl (why.0, (commands, start.served), inr ran, refl, start.was)), refl)
+  ran_stop rose t f w could after called commands image now Unwritten start why =
+      ran_torn rose t f w could after called commands image now start why.0 why.1
+  ran_stop rose t f w could after called commands image now Unprinted start why =
+      ran_unprinted rose t f w could after called commands image now start why.0 why.1
+  ran_stop rose t f w could after called commands image now stop start why = absurd why
 
   -- what the run of the commands left and wrote
-  abbrev pub Run_left : Type 0 → Type 0 → (Image → Type 0) → List Command → Option Files → Option Files → Option (List ℕ) → Option (List ℕ)
-      → Result Bool Stop → Type 0
-  Run_left Write Sunk IsOf commands before after given now result =
-      IfOk result (λ all_done. OfImage rules before given IsOf (λ image given. RanEach rules image commands given after now all_done))
-      × IfErr result (λ stop. OfImage rules before given IsOf (λ image given. StoppedAt rules Write Sunk image commands given after now stop))
+  abbrev pub Run_left : Type 0 → Type 0 → Type 0 → (Image → Type 0) → List Command → Left → Option (List ℕ) → Option (List ℕ) → Result Bool Stop → Type 0
+  Run_left Read Write Sunk IsOf commands after given now result =
+      IfOk result (λ all_done. (image : Image) → IsOf image → RanEach rules image commands given after now all_done)
+      × IfErr result (λ stop. (image : Image) → IsOf image → StoppedAt rules Read Write Sunk image commands given after now stop)
 
   -- the commands were run, or stopped, where all three tell
-  ran_told : (rose : Rises) (t : List ℕ) (f : Files) (w : List ℕ) (called : Bool) (commands : List Command) (IsOf : Image → Type 0)
-      (after : Option Files) (now : Option (List ℕ)) (result : Result Bool Stop) → called ≡ true → IsServed rules t commands → OpensOf rules IsOf f
-      → Run_left rose.writing rose.sink IsOf commands (Some f) after (Some w) now result
-      → IsSomeAnd after (λ a. IsSomeAnd now (λ n. RanSo rules rose called result t [] f a w n))
-  ran_told rose t f w called commands IsOf after now (Ok all_done) was served is left =
-      ran_each rose t f w called commands is.image after now all_done
-      (record { was = was; served = served; opens = is.opens }) (left.0 is.image is.are is.of)
-  ran_told rose t f w called commands IsOf after now (Err stop) was served is left =
-      ran_stop rose t f w called commands is.image after now stop
-      (record { was = was; served = served; opens = is.opens }) (left.1 is.image is.are is.of)
+  ran_told : (rose : Rises) (t : List ℕ) (f : Files) (w : List ℕ) (could : Files → Type 0) (after : Left) (called : Bool) (commands : List Command) (IsOf : Image → Type 0)
+      (now : Option (List ℕ)) (result : Result Bool Stop) → called ≡ true → IsServed rules t commands → OpensOf rules IsOf f
+      → Run_left rose.reading rose.writing rose.sink IsOf commands after (Some w) now result
+      → IsSomeAnd now (λ n. RanSo rules rose could after called result t [] f w n)
+  ran_told rose t f w could after called commands IsOf now (Ok all_done) was served is left =
+      ran_each rose t f w could after called commands is.image now all_done
+      (record { was = was; served = served; serves = is.serves }) (left.0 is.image is.of)
+  ran_told rose t f w could after called commands IsOf now (Err stop) was served is left =
+      ran_stop rose t f w could after called commands is.image now stop
+      (record { was = was; served = served; serves = is.serves }) (left.1 is.image is.of)
 
   -- the commands were run, or stopped
-  pub commands_ran : (rose : Rises) (text left : Option (List ℕ)) (before between after : Option Files) (given now : Option (List ℕ))
+  pub commands_ran : (rose : Rises) (text left : Option (List ℕ)) (before : Option Files) (could : Files → Type 0) (after : Left) (given now : Option (List ℕ))
       (called : Bool) (commands : List Command) (IsOf : Image → Type 0) (result : Result Bool Stop) → called ≡ true → Commands_read text left commands
-      → IfTold before (OpensOf rules IsOf) → between ≡ before → Run_left rose.writing rose.sink IsOf commands between after given now result
-      → WhereTold text left before after given now (RanSo rules rose called result)
-  commands_ran rose None left before between after given now called commands IsOf result was served is same ran = tt
-  commands_ran rose (Some t) left None between after given now called commands IsOf result was served is same ran = tt
-  commands_ran rose (Some t) left (Some f) between after None now called commands IsOf result was served is same ran = tt
-  commands_ran rose (Some t) left (Some f) between after (Some w) now called commands IsOf result was served is same ran =
-      subst (λ l. WhereTold (Some t) l (Some f) after (Some w) now (RanSo rules rose called result)) (sym served.1)
-      (ran_told rose t f w called commands IsOf after now result was served.0 is
-      (subst (λ b. Run_left rose.writing rose.sink IsOf commands b after (Some w) now result) same ran))
+      → IfTold before (OpensOf rules IsOf) → Run_left rose.reading rose.writing rose.sink IsOf commands after given now result
+      → WhereTold text left before given now (RanSo rules rose could after called result)
+  commands_ran rose None left before could after given now called commands IsOf result was served is ran = tt
+  commands_ran rose (Some t) left None could after given now called commands IsOf result was served is ran = tt
+  commands_ran rose (Some t) left (Some f) could after None now called commands IsOf result was served is ran = tt
+  commands_ran rose (Some t) left (Some f) could after (Some w) now called commands IsOf result was served is ran =
+      subst (λ l. WhereTold (Some t) l (Some f) (Some w) now (RanSo rules rose could after called result)) (sym served.1)
+      (ran_told rose t f w could after called commands IsOf now result was served.0 is ran)

@@ -9,13 +9,15 @@ use Rattle.alter_cli.specs.declared.stop.Stop.{Stop}
 use Rattle.alter_cli.specs.declared.stop.Stop.TheVariants.{Misused, TooLong, Unspelled, Unread, Unserved, Unreadable, Unwritten, Unprinted, Memory}
 use Rattle.alter_cli.specs.declared.status.Status.{Status}
 use Rattle.alter_cli.specs.declared.status.Status.TheVariants as statuses
-use Rattle.alter_cli.specs.declared.verdict.Verdict.{Verdict}
+use Rattle.plain_schema.specs.declared.verdict.Verdict.{Verdict}
 use Rattle.alter_cli.specs.Ending.{WhereSinkTells}
 use Rattle.alter_cli.specs.Given.{WroteFront}
-use Rattle.alter_cli.specs.Lines.{verdict_line, verdict_lines}
-use Rattle.alter_cli.specs.Outcome.{IsLastLine, IsRunStatus, IsUnrunStatus, Printed, is_done, run_status}
+use Rattle.alter_cli.specs.Left.{Left}
+use Rattle.alter_cli.specs.Lines.{verdict_lines}
+use Rattle.alter_cli.specs.Outcome.{IsLastLine, IsRunStatus, IsUnrunStatus, Printed, run_status}
 use Rattle.alter_cli.specs.Rules.{Rules}
-use Rattle.alter_cli.specs.Stops.{GaveLines, IsCaused, IsLast, NoForm, NoScript, stop_line, stop_status}
+use Rattle.alter_cli.specs.Stops.{GaveLines, IsCaused, IsLast, NoScript, NoSession, stop_line, stop_status}
+use Rattle.plain_schema.specs.Verdicts.{is_done, verdict_line}
 use Rattle.alter_cli.proofs.FinishLemmas.{last_told, unprinted_end}
 use Rattle.alter_cli.proofs.Grown.{verdict_lines-one, verdict_lines-push}
 use Rattle.alter_cli.proofs.Reached.{all_push}
@@ -67,15 +69,16 @@ same_lines (Some g) None now count all_done same is = absurd is
 same_lines (Some g) (Some h) now count all_done same is =
     subst (λ n. IsSomeAnd n (λ n. (verdicts : List Verdict) × (n ≡ g ++ verdict_lines 1 verdicts))) (sym same) (is.0, is.3)
 
--- the run of the commands ran out of memory
-pub gave_memory : (Sunk : Type 0) (given had now : Option (List ℕ)) (count : ℕ) (all_done : Bool) → now ≡ had → WhereSinkTells given had (GaveSo count all_done)
-    → WhereSinkTells given now (λ g n. GaveLines Sunk g n (Err Memory))
-gave_memory Sunk given had now count all_done same is = same_lines given had now count all_done same is
-
--- a write of the run of the commands failed
-pub gave_unwritten : (Sunk : Type 0) (given had now : Option (List ℕ)) (count : ℕ) (all_done : Bool) → now ≡ had → WhereSinkTells given had (GaveSo count all_done)
-    → WhereSinkTells given now (λ g n. GaveLines Sunk g n (Err Unwritten))
-gave_unwritten Sunk given had now count all_done same is = same_lines given had now count all_done same is
+-- the run of the commands stopped before the next line, for want of memory or by a failure of the disk
+pub gave_some : (Sunk : Type 0) (given had now : Option (List ℕ)) (count : ℕ) (all_done : Bool) (stop : Stop) → now ≡ had → WhereSinkTells given had (GaveSo count all_done)
+    → ((g n : List ℕ) (verdicts : List Verdict) → n ≡ g ++ verdict_lines 1 verdicts → GaveLines Sunk g n (Err stop))
+    → WhereSinkTells given now (λ g n. GaveLines Sunk g n (Err stop))
+gave_some Sunk None had now count all_done stop same is gives = tt
+gave_some Sunk (Some g) had now count all_done stop same is gives = at now (same_lines (Some g) had now count all_done same is)
+  where
+    at : (now : Option (List ℕ)) → IsSomeAnd now (λ n. (verdicts : List Verdict) × (n ≡ g ++ verdict_lines 1 verdicts)) → IsSomeAnd now (λ n. GaveLines Sunk g n (Err stop))
+    at None lines = absurd lines
+    at (Some n) lines = gives g n lines.0 lines.1
 
 -- a front of the next line was given
 pub gave_front : (Sunk : Type 0) (given had now : Option (List ℕ)) (count number : ℕ) (all_done : Bool) (verdict : Verdict) → Sunk → number ≡ count + 1
@@ -185,14 +188,15 @@ module _ {Image Command : Type 0} (rules : Rules Image Command) where
   gave_no_script Sunk Faulted text left (Some w) Memory why = ([], sym (append-nil w))
   gave_no_script Sunk Faulted text left (Some w) stop why = absurd why
 
-  -- there was no form, and nothing was given
-  pub gave_no_form : (Sunk Faulted : Type 0) (files : Option Files) (had : Option (List ℕ)) (stop : Stop) → NoForm rules Faulted files stop
+  -- the files were not opened, and nothing was given
+  pub gave_no_session : (Sunk Read Write : Type 0) (old new : Left) (had : Option (List ℕ)) (stop : Stop) → NoSession rules Read Write old new stop
       → WhereSinkTells had had (λ g n. GaveLines Sunk g n (Err stop))
-  gave_no_form Sunk Faulted files None stop why = tt
-  gave_no_form Sunk Faulted files (Some w) Unserved why = refl
-  gave_no_form Sunk Faulted files (Some w) Unreadable why = ([], sym (append-nil w))
-  gave_no_form Sunk Faulted files (Some w) Memory why = ([], sym (append-nil w))
-  gave_no_form Sunk Faulted files (Some w) stop why = absurd why
+  gave_no_session Sunk Read Write old new None stop why = tt
+  gave_no_session Sunk Read Write old new (Some w) (Unserved code) why = refl
+  gave_no_session Sunk Read Write old new (Some w) Unreadable why = ([], sym (append-nil w))
+  gave_no_session Sunk Read Write old new (Some w) Unwritten why = ([], sym (append-nil w))
+  gave_no_session Sunk Read Write old new (Some w) Memory why = ([], sym (append-nil w))
+  gave_no_session Sunk Read Write old new (Some w) stop why = absurd why
 
   -- the line of a stop goes with its status and with the counts that rose
   line_of : (rose : Rises) (First : Type 0) (text : Option (List ℕ)) (files : Option Files) (stop : Stop) → (First → rose.sink)
@@ -200,7 +204,7 @@ module _ {Image Command : Type 0} (rules : Rules Image Command) where
   line_of rose First text files TooLong first why = inl refl
   line_of rose First text files Unspelled first why = inr refl
   line_of rose First text files Unread first why = inl (inl why, refl)
-  line_of rose First text files Unserved first why = refl
+  line_of rose First text files (Unserved code) first why = (code, refl)
   line_of rose First text files Unreadable first why = inl (inr why.0, refl)
   line_of rose First text files Unwritten first why = inr (inl (why.0, refl))
   line_of rose First text files Unprinted first why = inr (inr (first why.0, refl))
@@ -241,8 +245,8 @@ module _ {Image Command : Type 0} (rules : Rules Image Command) where
       line_printed rose Part TooLong status [] g m n later (inl refl) (is ∙ sym (append-nil g)) (λ u. refl) last
   stop_printed rose First Part text files Unspelled status g m n first later why is last =
       line_printed rose Part Unspelled status [] g m n later (inr refl) (is ∙ sym (append-nil g)) (λ u. refl) last
-  stop_printed rose First Part text files Unserved status g m n first later why is last =
-      line_printed rose Part Unserved status [] g m n later refl (is ∙ sym (append-nil g)) (λ u. refl) last
+  stop_printed rose First Part text files (Unserved code) status g m n first later why is last =
+      line_printed rose Part (Unserved code) status [] g m n later (code, refl) (is ∙ sym (append-nil g)) (λ u. refl) last
   stop_printed rose First Part text files Misused status g m n first later why is last = absurd why
   stop_printed rose First Part text files Memory status g m n first later why is last =
       line_printed rose Part Memory status is.0 g m n later refl is.1 (λ u. absurd (memory_ran u)) last

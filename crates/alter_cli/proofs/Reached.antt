@@ -1,5 +1,5 @@
 -- The loop over the commands, by what each command makes of the image that it comes to.
-use Rattle.std.proofs.Common.{◌≡◌, ◌<◌, ℕ, ◌+◌, Bool, true, false, ◌&&◌, List, [], ◌∷◌, ◌++◌, length, take, Option, Some, None, option_map, IsSomeAnd, get_or, refl, sym, ◌∙◌, ap, subst, arith, append-nil, append_assoc}
+use Rattle.std.proofs.Common.{◌≡◌, ◌<◌, ℕ, ◌+◌, Bool, true, false, ◌&&◌, List, [], ◌∷◌, ◌++◌, length, take, Option, Some, None, option_map, get_or, refl, sym, ◌∙◌, ap, subst, arith, inl, inr, append-nil, append_assoc}
 use Rattle.std.proofs.Math.Seq.{take-length}
 use Rattle.std.proofs.lemmas.List.{length-take-le}
 use Rattle.std.proofs.lemmas.List.Folds.{list_all-append}
@@ -7,14 +7,15 @@ use Rattle.std.proofs.lemmas.Option.{slice_get_read}
 use Rattle.std.specs.List.{list_all}
 use Rattle.alter_disk.specs.Files.{Files}
 use Rattle.alter_disk.specs.Changes.{IfTold}
-use Rattle.alter_cli.specs.declared.verdict.Verdict.{Verdict}
-use Rattle.alter_cli.specs.declared.verdict.Verdict.TheVariants.{Done}
+use Rattle.plain_schema.specs.declared.verdict.Verdict.{Verdict}
+use Rattle.plain_schema.specs.declared.verdict.Verdict.TheVariants.{Done}
 use Rattle.alter_cli.specs.Given.{WroteFront}
-use Rattle.alter_cli.specs.Lines.{verdict_line, verdict_lines}
-use Rattle.alter_cli.specs.Outcome.{is_done}
+use Rattle.alter_cli.specs.Left.{Each, EachCrash, Left}
+use Rattle.alter_cli.specs.Lines.{verdict_lines}
 use Rattle.alter_cli.specs.Rules.{Rules}
 use Rattle.alter_cli.specs.Run.{Run}
-use Rattle.alter_cli.specs.Stops.{OfImage, RanEach, RanTo, TornAt, UnprintedAt}
+use Rattle.alter_cli.specs.Stops.{HasLines, IsNear, IsOpenTo, IsReachedBy, Makes, MayHave, RanEach, RanSome, TornAt, UnprintedAt}
+use Rattle.plain_schema.specs.Verdicts.{is_done, verdict_line}
 use Rattle.common_laws.proofs.Lists.{take_one}
 use Rattle.alter_cli.proofs.Grown.{length-run, run-grows, verdict_lines-push}
 
@@ -42,46 +43,56 @@ up_to : {Command : Type 0} (commands : List Command) (place number : ℕ) (comma
     → take (place + 1) commands ≡ take place commands ++ command ∷ []
 up_to commands place number command next = sym (take_one commands place command next.within next.is)
 
+-- a line more behind those of the verdicts
+lines_more : (given had now : Option (List ℕ)) (verdicts : List Verdict) (verdict : Verdict) (number : ℕ) → number ≡ 1 + length verdicts
+    → now ≡ option_map (λ w. w ++ verdict_line number verdict) had → HasLines given had verdicts → HasLines given now (verdicts ++ verdict ∷ [])
+lines_more None had now verdicts verdict number count printed is = tt
+lines_more (Some given) had now verdicts verdict number count printed is =
+    let line : verdict_lines 1 verdicts ++ verdict_line number verdict ≡ verdict_lines 1 (verdicts ++ verdict ∷ []) =
+    ap (λ n. verdict_lines 1 verdicts ++ verdict_line n verdict) count ∙ sym (verdict_lines-push 1 verdicts verdict) in
+    printed
+    ∙ ap (option_map (λ (w : List ℕ). w ++ verdict_line number verdict)) is
+    ∙ ap Some (append_assoc given (verdict_lines 1 verdicts) (verdict_line number verdict))
+    ∙ ap (λ (l : List ℕ). Some (given ++ l)) line
+
+-- a front of a line more behind those of the verdicts
+front_more : (given had now : Option (List ℕ)) (verdicts : List Verdict) (verdict : Verdict) (number : ℕ) → number ≡ 1 + length verdicts
+    → IfTold had (λ w. WroteFront w (verdict_line number verdict) now) → HasLines given had verdicts
+    → IfTold given (λ w. WroteFront (w ++ verdict_lines 1 verdicts) (verdict_line (1 + length verdicts) verdict) now)
+front_more None had now verdicts verdict number count front is = tt
+front_more (Some given) had now verdicts verdict number count front is =
+    subst (λ n. WroteFront (given ++ verdict_lines 1 verdicts) (verdict_line n verdict) now) count
+    (subst (λ h. IfTold h (λ w. WroteFront w (verdict_line number verdict) now)) is front)
+
+-- the sink was given nothing more
+lines_same : (given had now : Option (List ℕ)) (verdicts : List Verdict) → now ≡ had → HasLines given had verdicts → HasLines given now verdicts
+lines_same None had now verdicts same is = tt
+lines_same (Some given) had now verdicts same is = same ∙ is
+
 module _ {Image Command : Type 0} (rules : Rules Image Command) where
   -- these commands were run on an image, and the fact holds of the image behind them
-  pub record Reached (IsOf : Image → Type 0) (image : Image) (commands : List Command) (given : List ℕ) (after : Option Files) (now : Option (List ℕ)) (all : Bool) : Type 0 where
+  pub record Reached (IsOf : Image → Type 0) (image : Image) (commands : List Command) (given now : Option (List ℕ)) (all : Bool) : Type 0 where
     pub verdicts : List Verdict
-    pub ran : RanTo rules image commands given after now verdicts
-    pub of : IsOf ran.last
+    pub last : Image
+    pub run : Run rules image commands verdicts last
+    pub of : IsOf last
+    pub lines : HasLines given now verdicts
     pub told : all ≡ list_all is_done verdicts
 
-  -- what a command makes of files with an image of which the fact holds: a step, and files with the new image, of which
-  -- the other fact holds
-  abbrev pub Makes : (Image → Type 0) → Command → Verdict → (Files → Files) → (Image → Type 0) → Type 0
-  Makes IsOf command verdict carry IsNew =
-      (files : Files) (last : Image) → rules.AreFiles files last → IsOf last
-      → (new : Image) × rules.Step last command verdict new × rules.AreFiles (carry files) new × IsNew new
-
   -- before the first command
-  pub reached_none : (IsOf : Image → Type 0) (before : Option Files) (had : Option (List ℕ))
-      → OfImage rules before had IsOf (λ image given. Reached IsOf image [] given before had true)
-  reached_none IsOf None had = tt
-  reached_none IsOf (Some files) None = tt
-  reached_none IsOf (Some files) (Some given) = λ image are of. record {
+  pub reached_none : (IsOf : Image → Type 0) (given : Option (List ℕ)) (image : Image) → IsOf image → Reached IsOf image [] given given true
+  reached_none IsOf given image of = record {
     verdicts = [];
-    ran = record {
-      last = image;
-      files = files;
-      run = refl;
-      told = refl;
-      are = are;
-      lines = ap Some (sym (append-nil given));
-    };
+    last = image;
+    run = refl;
     of = of;
+    lines = none given;
     told = refl;
   }
-
-  -- a fact on what the files and the sink were
-  pub of_image : (before : Option Files) (had : Option (List ℕ)) (IsOf : Image → Type 0) (P Q : Image → List ℕ → Type 0)
-      → ((image : Image) (given : List ℕ) → P image given → Q image given) → OfImage rules before had IsOf P → OfImage rules before had IsOf Q
-  of_image None had IsOf P Q maps is = tt
-  of_image (Some files) None IsOf P Q maps is = tt
-  of_image (Some files) (Some given) IsOf P Q maps is = λ image are of. maps image given (is image are of)
+    where
+      none : (given : Option (List ℕ)) → HasLines given given []
+      none None = tt
+      none (Some w) = ap Some (sym (append-nil w))
 
   -- the number of the next command is that of the verdicts and one
   numbered : (image : Image) (commands : List Command) (place number : ℕ) (command : Command) (verdicts : List Verdict) (last : Image)
@@ -91,100 +102,102 @@ module _ {Image Command : Type 0} (rules : Rules Image Command) where
       let front = length-take-le place commands (omega (arith, next.within)) in
       omega (arith, next.at)
 
-  -- one command more
-  pub reached_more : (IsOf IsNew : Image → Type 0) (carry : Files → Files) (image : Image) (commands : List Command) (given : List ℕ) (place number : ℕ)
-      (command : Command) (verdict : Verdict) (before after : Option Files) (had now : Option (List ℕ)) (all_done : Bool) → IsNext commands place number command
-      → Makes IsOf command verdict carry IsNew → after ≡ option_map carry before → now ≡ option_map (λ w. w ++ verdict_line number verdict) had
-      → Reached IsOf image (take place commands) given before had all_done
-      → Reached IsNew image (take (place + 1) commands) given after now (all_done && is_done verdict)
-  reached_more IsOf IsNew carry image commands given place number command verdict before after had now all_done next makes left printed reached =
-      let ran = reached.ran in
-      let verdicts = reached.verdicts in
-      let count = numbered image commands place number command verdicts ran.last next ran.run in
-      let step = makes ran.files ran.last ran.are reached.of in
-      let line : verdict_lines 1 verdicts ++ verdict_line number verdict ≡ verdict_lines 1 (verdicts ++ verdict ∷ []) =
-      ap (λ n. verdict_lines 1 verdicts ++ verdict_line n verdict) count ∙ sym (verdict_lines-push 1 verdicts verdict) in
-      record {
-        verdicts = verdicts ++ verdict ∷ [];
-        ran = record {
+  -- the run with one command more
+  run_more : (image : Image) (commands : List Command) (place number : ℕ) (command : Command) (verdicts : List Verdict) (verdict : Verdict) (last new : Image)
+      → IsNext commands place number command → Run rules image (take place commands) verdicts last → rules.Step last command verdict new
+      → Run rules image (take (place + 1) commands) (verdicts ++ verdict ∷ []) new
+  run_more image commands place number command verdicts verdict last new next run step =
+      subst (λ cs. Run rules image cs (verdicts ++ verdict ∷ []) new) (sym (up_to commands place number command next))
+      (run-grows rules image (take place commands) verdicts last command verdict new run step)
+
+  module _ (IsOf : Image → Type 0) (image : Image) (commands : List Command) (given : Option (List ℕ)) (place number : ℕ) (command : Command)
+      (had now : Option (List ℕ)) (all_done : Bool) (next : IsNext commands place number command)
+      (reached : Reached IsOf image (take place commands) given had all_done) where
+    -- one command more
+    pub reached_more : (IsNew : Image → Type 0) (verdict : Verdict) → Makes rules IsOf command verdict IsNew
+        → now ≡ option_map (λ w. w ++ verdict_line number verdict) had
+        → Reached IsNew image (take (place + 1) commands) given now (all_done && is_done verdict)
+    reached_more IsNew verdict makes printed =
+        let verdicts = reached.verdicts in
+        let step = makes reached.last reached.of in
+        record {
+          verdicts = verdicts ++ verdict ∷ [];
           last = step.0;
-          files = carry ran.files;
-          run = subst (λ cs. Run rules image cs (verdicts ++ verdict ∷ []) step.0) (sym (up_to commands place number command next))
-              (run-grows rules image (take place commands) verdicts ran.last command verdict step.0 ran.run step.1);
-          told = left ∙ ap (option_map carry) ran.told;
-          are = step.2;
-          lines =
-              printed
-              ∙ ap (option_map (λ (w : List ℕ). w ++ verdict_line number verdict)) ran.lines
-              ∙ ap Some (append_assoc given (verdict_lines 1 verdicts) (verdict_line number verdict))
-              ∙ ap (λ (l : List ℕ). Some (given ++ l)) line;
-        };
-        of = step.3;
-        told = ap (λ b. b && is_done verdict) reached.told ∙ all_push verdicts verdict;
-      }
+          run = run_more image commands place number command verdicts verdict reached.last step.0 next reached.run step.1;
+          of = step.2;
+          lines = lines_more given had now verdicts verdict number
+              (numbered image commands place number command verdicts reached.last next reached.run) printed reached.lines;
+          told = ap (λ b. b && is_done verdict) reached.told ∙ all_push verdicts verdict;
+        }
+
+    -- the next command changed nothing
+    pub reached_still : (after : Left) → IsOpenTo rules IsOf after → now ≡ had → RanSome rules image commands given after now
+    reached_still after opens same = (
+      place,
+      reached.verdicts,
+      record {
+        last = reached.last;
+        run = reached.run;
+        files = opens reached.last reached.of;
+        lines = lines_same given had now reached.verdicts same reached.lines;
+      },
+    )
+
+    -- the last line of the commands that were run was not printed
+    pub unprinted : (after : Left) (verdict : Verdict) → Makes rules IsOf command verdict (λ new. Each after (rules.OpensTo new))
+        → IfTold had (λ w. WroteFront w (verdict_line number verdict) now) → UnprintedAt rules image commands given after now
+    unprinted after verdict makes front =
+        let verdicts = reached.verdicts in
+        let step = makes reached.last reached.of in
+        record {
+          count = place + 1;
+          verdicts = verdicts;
+          verdict = verdict;
+          last = step.0;
+          run = run_more image commands place number command verdicts verdict reached.last step.0 next reached.run step.1;
+          files = step.2;
+          front = front_more given had now verdicts verdict number
+              (numbered image commands place number command verdicts reached.last next reached.run) front reached.lines;
+        }
+
+    -- the write of the next command was cut short
+    pub torn_at : (after : Left) → ((last : Image) → IsOf last → EachCrash after (MayHave rules last command)) → now ≡ had
+        → TornAt rules image commands given after now
+    torn_at after opens same = record {
+      count = place;
+      verdicts = reached.verdicts;
+      last = reached.last;
+      run = reached.run;
+      files = λ c left. near c (opens reached.last reached.of c left);
+      lines = lines_same given had now reached.verdicts same reached.lines;
+    }
+      where
+        near : (c : Files) → MayHave rules reached.last command c → IsNear rules commands place reached.last c
+        near c (inl is) = inl is
+        near c (inr is) = inr (command, slice_get_read commands (length commands) place command refl next.within next.is, is)
+
+    -- files that the next command may leave open to an image of the run
+    pub may_reach : (c : Files) → MayHave rules reached.last command c → IsReachedBy rules image commands c
+    may_reach c (inl is) = (place, reached.verdicts, reached.last, reached.run, is)
+    may_reach c (inr is) = (
+      place + 1,
+      reached.verdicts ++ Done ∷ [],
+      is.0,
+      run_more image commands place number command reached.verdicts Done reached.last is.0 next reached.run is.1,
+      is.2,
+    )
 
   -- all commands
-  pub reached_all : (IsOf : Image → Type 0) (image : Image) (commands : List Command) (given : List ℕ) (place : ℕ) (after : Option Files)
-      (now : Option (List ℕ)) (all_done : Bool) → place ≡ length commands → Reached IsOf image (take place commands) given after now all_done
+  pub reached_all : (IsOf : Image → Type 0) (image : Image) (commands : List Command) (given now : Option (List ℕ)) (after : Left) (place : ℕ)
+      (all_done : Bool) → place ≡ length commands → IsOpenTo rules IsOf after → Reached IsOf image (take place commands) given now all_done
       → RanEach rules image commands given after now all_done
-  reached_all IsOf image commands given place after now all_done end reached = (
+  reached_all IsOf image commands given now after place all_done end opens reached = (
     reached.verdicts,
-    subst (λ cs. RanTo rules image cs given after now reached.verdicts) (ap (λ n. take n commands) end ∙ take-length commands) reached.ran,
+    record {
+      last = reached.last;
+      run = subst (λ cs. Run rules image cs reached.verdicts reached.last) (ap (λ n. take n commands) end ∙ take-length commands) reached.run;
+      files = opens reached.last reached.of;
+      lines = reached.lines;
+    },
     reached.told,
   )
-
-  -- the next command changed nothing
-  pub reached_still : (IsOf : Image → Type 0) (image : Image) (commands : List Command) (given : List ℕ) (place : ℕ) (before after : Option Files)
-      (had now : Option (List ℕ)) (all_done : Bool) → after ≡ before → now ≡ had → Reached IsOf image (take place commands) given before had all_done
-      → (count : ℕ) × (verdicts : List Verdict) × RanTo rules image (take count commands) given after now verdicts
-  reached_still IsOf image commands given place before after had now all_done files lines reached = (
-    place,
-    reached.verdicts,
-    subst (λ a. RanTo rules image (take place commands) given a now reached.verdicts) (sym files)
-        (subst (λ n. RanTo rules image (take place commands) given before n reached.verdicts) (sym lines) reached.ran),
-  )
-
-  -- the last line of the commands that were run was not printed
-  pub unprinted : (IsOf IsNew : Image → Type 0) (carry : Files → Files) (image : Image) (commands : List Command) (given : List ℕ) (place number : ℕ)
-      (command : Command) (verdict : Verdict) (before after : Option Files) (had now : Option (List ℕ)) (all_done : Bool) → IsNext commands place number command
-      → Makes IsOf command verdict carry IsNew → after ≡ option_map carry before → IfTold had (λ given. WroteFront given (verdict_line number verdict) now)
-      → Reached IsOf image (take place commands) given before had all_done → UnprintedAt rules image commands given after now
-  unprinted IsOf IsNew carry image commands given place number command verdict before after had now all_done next makes left printed reached =
-      let ran = reached.ran in
-      let verdicts = reached.verdicts in
-      let step = makes ran.files ran.last ran.are reached.of in
-      record {
-        count = place + 1;
-        verdicts = verdicts;
-        verdict = verdict;
-        last = step.0;
-        files = carry ran.files;
-        run = subst (λ cs. Run rules image cs (verdicts ++ verdict ∷ []) step.0) (sym (up_to commands place number command next))
-            (run-grows rules image (take place commands) verdicts ran.last command verdict step.0 ran.run step.1);
-        told = left ∙ ap (option_map carry) ran.told;
-        are = step.2;
-        front = subst (λ n. WroteFront (given ++ verdict_lines 1 verdicts) (verdict_line n verdict) now)
-            (numbered image commands place number command verdicts ran.last next ran.run)
-            (subst (λ h. IfTold h (λ w. WroteFront w (verdict_line number verdict) now)) ran.lines printed);
-      }
-
-  -- the write of the next command was cut short
-  pub torn_at : (IsOf IsNew : Image → Type 0) (carry : Files → Files) (image : Image) (commands : List Command) (given : List ℕ) (place number : ℕ)
-      (command : Command) (before after : Option Files) (had now : Option (List ℕ)) (all_done : Bool) → IsNext commands place number command
-      → Makes IsOf command Done carry IsNew
-      → ((files : Files) (last : Image) → rules.AreFiles files last → IsOf last → before ≡ Some files → IsSomeAnd after (rules.IsTorn files))
-      → now ≡ had → Reached IsOf image (take place commands) given before had all_done → TornAt rules image commands given after now
-  torn_at IsOf IsNew carry image commands given place number command before after had now all_done next makes torn same reached =
-      let ran = reached.ran in
-      let step = makes ran.files ran.last ran.are reached.of in
-      record {
-        count = place;
-        verdicts = reached.verdicts;
-        files = ran.files;
-        ran = record { last = ran.last; files = ran.files; run = ran.run; told = refl; are = ran.are; lines = same ∙ ran.lines };
-        command = command;
-        next = slice_get_read commands (length commands) place command refl next.within next.is;
-        new = step.0;
-        step = step.1;
-        torn = torn ran.files ran.last ran.are reached.of ran.told;
-      }

@@ -2,12 +2,7 @@
 use Rattle.std.proofs.Common.{◌≡◌, ◌<◌, ◌≤◌, ◌^◌, ◌+◌, ℕ, IsSomeAnd, option_map, subst, refl, List, [], ◌∷◌, ◌++◌, Option, Some, None, length, drop, sym, ◌∙◌, ap, arith}
 use Rattle.std.proofs.lemmas.List.{drop-drop, drop_at}
 use Rattle.std.specs.List.{AllByRecursion}
-use Rattle.alter_disk.specs.Files.{Files}
 use Rattle.alter_disk.specs.Changes.{IfTold}
-use Rattle.alter_cli.specs.declared.form.Form.{Form}
-use Rattle.alter_cli.specs.Opens.{first_rules}
-use Rattle.alter_cli.specs.Served.{AreOfForm, IsFormOf}
-use Rattle.alter_cli.specs.Stops.{OpensOf}
 use Rattle.alter_cli.specs.Outcome.{script_limit}
 use Rattle.alter_cli.specs.Causes.{IsFrontTaken}
 use Rattle.plain_sql.specs.declared.script.Command.{Command}
@@ -49,13 +44,3 @@ pub small_columns : (text : List ℕ) (commands : List Command) → length text 
     → AllByRecursion (λ command. length command.column < 2 ^ 30) commands
 small_columns text [] short within = tt
 small_columns text (command ∷ commands) short within = (omega (arith, within.0.column, short), small_columns text commands short within.1)
-
--- the files that a form was read of have an image that is served, which the form is of
-pub opened : (told : Option Files) (form : Form) → IfTold told (λ files. AreOfForm files form) → IfTold told (OpensOf first_rules (λ image. IsFormOf image form))
-opened None form is = tt
-opened (Some files) form is = record {
-  image = is.image;
-  are = is.are;
-  opens = record { files = is.are; tables = form.tables.items; form = is.of.first };
-  of = is.of;
-}

@@ -2,15 +2,17 @@
 use Rattle.std.proofs.Common.{◌≡◌, ◌≢◌, ℕ, Bool, ◌⊎◌, inl, inr, Option, Some, None, Result, Ok, Err, OnOk, IfErr, List, sym, ◌∙◌, arith}
 use Rattle.alter_disk.specs.Changes.{IfTold}
 use Rattle.alter_disk.specs.Files.{Files}
-use Rattle.alter_disk.specs.Outside.{Rises}
+use Rattle.alter_disk.specs.Outside.{AnyRose, Rises}
 use Rattle.alter_cli.specs.declared.status.Status.{Status}
 use Rattle.alter_cli.specs.declared.status.Status.TheVariants as statuses
+use Rattle.alter_cli.specs.declared.file_code.FileCode.{FileCode}
 use Rattle.alter_cli.specs.declared.stop.Stop.{Stop}
 use Rattle.alter_cli.specs.declared.stop.Stop.TheVariants.{Misused, TooLong, Unspelled, Unread, Unserved, Unreadable, Unwritten, Unprinted, Memory}
 use Rattle.alter_cli.specs.Causes.{CanRun, IsExactly, IsFileRefused, IsUnserved}
+use Rattle.alter_cli.specs.Left.{Left}
 use Rattle.alter_cli.specs.Outcome.{IsRunStatus}
 use Rattle.alter_cli.specs.Rules.{Rules}
-use Rattle.alter_cli.specs.Stops.{CanRunTold, IsCaused, IsRunStop, IsScriptTold, IsStopStatus, NoForm, NoScript, OpensOf, stop_status}
+use Rattle.alter_cli.specs.Stops.{CanRunTold, IsCaused, IsRunStop, IsScriptTold, IsStopStatus, IsRefusedSo, NoScript, NoSession, OpensOf, stop_status}
 use Rattle.alter_cli.proofs.PerformLemmas.{Commands_read}
 
 -- a status that is another comes under no condition, and a fault or want of memory may come in its place
@@ -40,7 +42,7 @@ module _ {Image Command : Type 0} (rules : Rules Image Command) where
       commands = commands;
       served = is.0;
       image = of.image;
-      opens = of.opens;
+      serves = of.serves;
     };
   }
 
@@ -56,28 +58,34 @@ module _ {Image Command : Type 0} (rules : Rules Image Command) where
   script_cause rose text left files stop why = absurd why
 
   -- the file that was refused
-  refused_told : (text left : Option (List ℕ)) (files : Option Files) (commands : List Command) → Commands_read rules text left commands
-      → NoForm rules (Unit {0}) files Unserved → IfTold text (λ t. IfTold files (IsFileRefused rules t))
-  refused_told None left files commands is why = tt
-  refused_told (Some t) left None commands is why = tt
-  refused_told (Some t) left (Some f) commands is why = record { commands = commands; served = is.0; unserved = why }
+  refused_told : (Read Write : Type 0) (text left : Option (List ℕ)) (old new : Left) (commands : List Command) (code : FileCode) → Commands_read rules text left commands
+      → NoSession rules Read Write old new (Unserved code) → IfTold text (λ t. IfTold old.reads (IsFileRefused rules t))
+  refused_told Read Write text left old new commands code is why = at text old.reads is why
+    where
+      at : (text : Option (List ℕ)) (files : Option Files) → Commands_read rules text left commands → IfTold files (λ f. IsRefusedSo rules f code new)
+          → IfTold text (λ t. IfTold files (IsFileRefused rules t))
+      at None files is why = tt
+      at (Some t) None is why = tt
+      at (Some t) (Some f) is why = record { commands = commands; served = is.0; unserved = why.unserved }
 
-  -- why there was no form
-  pub form_cause : (rose : Rises) (text left : Option (List ℕ)) (files : Option Files) (commands : List Command) (stop : Stop)
-      → Commands_read rules text left commands → NoForm rules rose.reading files stop → IsCaused rules rose text files stop
-  form_cause rose text left files commands Unserved is why =
-      (script_told text left commands is, refused_told text left files commands is why)
-  form_cause rose text left files commands Unreadable is why = (why, script_told text left commands is)
-  form_cause rose text left files commands Memory is why = tt
-  form_cause rose text left files commands stop is why = absurd why
+  -- why the files were not opened
+  pub session_cause : (rose : Rises) (text left : Option (List ℕ)) (old new : Left) (commands : List Command) (stop : Stop)
+      → Commands_read rules text left commands → NoSession rules rose.reading rose.writing old new stop → IsCaused rules rose text old.reads stop
+  session_cause rose text left old new commands (Unserved code) is why =
+      (script_told text left commands is, refused_told rose.reading rose.writing text left old new commands code is why)
+  session_cause rose text left old new commands Unreadable is why = (why.0, script_told text left commands is)
+  session_cause rose text left old new commands Unwritten is why = (why.0, script_told text left commands is)
+  session_cause rose text left old new commands Memory is why = tt
+  session_cause rose text left old new commands stop is why = absurd why
 
   -- why the run of the commands stopped
-  pub stop_cause : (rose : Rises) (Part : Type 0) (text : Option (List ℕ)) (files : Option Files) (stop : Stop) → (Part → rose.writing)
-      → CanRunTold rules text files → IsRunStop Part rose.sink stop → IsCaused rules rose text files stop
-  stop_cause rose Part text files Unwritten wrote can why = (wrote why, can)
-  stop_cause rose Part text files Unprinted wrote can why = (why, can)
-  stop_cause rose Part text files Memory wrote can why = tt
-  stop_cause rose Part text files stop wrote can why = absurd why
+  pub stop_cause : (rose : Rises) (Read Write : Type 0) (text : Option (List ℕ)) (files : Option Files) (stop : Stop) → (Read → rose.reading) → (Write → rose.writing)
+      → CanRunTold rules text files → IsRunStop Read Write rose.sink stop → IsCaused rules rose text files stop
+  stop_cause rose Read Write text files Unreadable read wrote can why = (read why, can.script)
+  stop_cause rose Read Write text files Unwritten read wrote can why = (wrote why, can.script)
+  stop_cause rose Read Write text files Unprinted read wrote can why = (why, can)
+  stop_cause rose Read Write text files Memory read wrote can why = tt
+  stop_cause rose Read Write text files stop read wrote can why = absurd why
 
   -- a run of the commands that did not stop was one of what can be run
   pub ok_able : (text : Option (List ℕ)) (files : Option Files) (result : Result Bool Stop) → CanRunTold rules text files → OnOk result (CanRunTold rules text files)
@@ -85,10 +93,10 @@ module _ {Image Command : Type 0} (rules : Rules Image Command) where
   ok_able text files (Err stop) can = tt
 
   -- why the run of the commands stopped, if it did
-  pub err_cause : (rose : Rises) (Part : Type 0) (text : Option (List ℕ)) (files : Option Files) (result : Result Bool Stop) → (Part → rose.writing)
-      → CanRunTold rules text files → IfErr result (IsRunStop Part rose.sink) → IfErr result (IsCaused rules rose text files)
-  err_cause rose Part text files (Ok all_done) wrote can why = tt
-  err_cause rose Part text files (Err stop) wrote can why = stop_cause rose Part text files stop wrote can why
+  pub err_cause : (rose : Rises) (Read Write : Type 0) (text : Option (List ℕ)) (files : Option Files) (result : Result Bool Stop) → (Read → rose.reading) → (Write → rose.writing)
+      → CanRunTold rules text files → IfErr result (IsRunStop Read Write rose.sink) → IfErr result (IsCaused rules rose text files)
+  err_cause rose Read Write text files (Ok all_done) read wrote can why = tt
+  err_cause rose Read Write text files (Err stop) read wrote can why = stop_cause rose Read Write text files stop read wrote can why
 
   -- a script's status, where the text is told
   script_at : (rose : Rises) (First Part : Type 0) (t : List ℕ) (files : Option Files) (stop : Stop) (status : Status) → (First → rose.sink)
@@ -98,12 +106,12 @@ module _ {Image Command : Type 0} (rules : Rules Image Command) where
   script_at rose First Part t files Unspelled status first why same = record { only = λ _. why; comes = λ _. inl same }
   script_at rose First Part t files Unread status first why same =
       other_status _ _ _ status (λ e. cc) (λ _. inr (same, inl why))
-  script_at rose First Part t files Unserved status first why same =
+  script_at rose First Part t files (Unserved code) status first why same =
       other_status _ _ _ status (λ e. cc) (λ un. absurd (un why.0.0 why.0.1))
   script_at rose First Part t files Unreadable status first why same =
       other_status _ _ _ status (λ e. cc) (λ un. absurd (un why.1.0 why.1.1))
   script_at rose First Part t files Unwritten status first why same =
-      other_status _ _ _ status (λ e. cc) (λ un. absurd (un why.1.script.0 why.1.script.1))
+      other_status _ _ _ status (λ e. cc) (λ un. absurd (un why.1.0 why.1.1))
   script_at rose First Part t files Unprinted status first why same =
       other_status _ _ _ status (λ e. cc) (λ _. inr (same, inr (first why.0)))
   script_at rose First Part t files Memory status first why same = other_status _ _ _ status (λ e. cc) (λ _. inl same)
@@ -122,45 +130,45 @@ module _ {Image Command : Type 0} (rules : Rules Image Command) where
   -- a file's status, where text and files are told
   file_at : (rose : Rises) (First : Type 0) (t : List ℕ) (f : Files) (stop : Stop) (status : Status) → (First → rose.sink)
       → IsCaused rules (record rose { sink = First }) (Some t) (Some f) stop → status ≡ stop_status stop
-      → IsExactly (λ s. s ≡ statuses.File) (IsFileRefused rules t f) (rose.source ⊎ rose.reading ⊎ rose.sink) status
+      → IsExactly (λ s. s ≡ statuses.File) (IsFileRefused rules t f) (AnyRose rose) status
   file_at rose First t f TooLong status first why same =
       other_status _ _ _ status (λ e. cc) (λ r. absurd (why r.commands r.served))
   file_at rose First t f Unspelled status first why same =
       other_status _ _ _ status (λ e. cc) (λ r. absurd (why r.commands r.served))
   file_at rose First t f Unread status first why same = other_status _ _ _ status (λ e. cc) (λ _. inr (same, inl why))
-  file_at rose First t f Unserved status first why same = record { only = λ _. why.1; comes = λ _. inl same }
+  file_at rose First t f (Unserved code) status first why same = record { only = λ _. why.1; comes = λ _. inl same }
   file_at rose First t f Unreadable status first why same =
       other_status _ _ _ status (λ e. cc) (λ _. inr (same, inr (inl why.0)))
   file_at rose First t f Unwritten status first why same =
-      other_status _ _ _ status (λ e. cc) (λ r. absurd (r.unserved why.1.both.image why.1.both.opens))
+      other_status _ _ _ status (λ e. cc) (λ _. inr (same, inr (inr (inl why.0))))
   file_at rose First t f Unprinted status first why same =
-      other_status _ _ _ status (λ e. cc) (λ _. inr (same, inr (inr (first why.0))))
+      other_status _ _ _ status (λ e. cc) (λ _. inr (same, inr (inr (inr (first why.0)))))
   file_at rose First t f Memory status first why same = other_status _ _ _ status (λ e. cc) (λ _. inl same)
   file_at rose First t f Misused status first why same = absurd why
 
   -- a call that stopped ends with a file's status exactly where it should
   pub file_stopped : (rose : Rises) (First Part : Type 0) (text : Option (List ℕ)) (files : Option Files) (stop : Stop) (status : Status)
       → (First → rose.sink) → (Part → rose.sink) → IsCaused rules (record rose { sink = First }) text files stop → IsStopStatus Part stop status
-      → IfTold text (λ t. IfTold files (λ f. IsExactly (λ s. s ≡ statuses.File) (IsFileRefused rules t f) (rose.source ⊎ rose.reading ⊎ rose.sink) status))
+      → IfTold text (λ t. IfTold files (λ f. IsExactly (λ s. s ≡ statuses.File) (IsFileRefused rules t f) (AnyRose rose) status))
   file_stopped rose First Part None files stop status first later why is = tt
   file_stopped rose First Part (Some t) None stop status first later why is = tt
   file_stopped rose First Part (Some t) (Some f) stop status first later why (inl same) =
       file_at rose First t f stop status first why same
   file_stopped rose First Part (Some t) (Some f) stop status first later why (inr fault) =
-      other_status _ _ _ status (λ e. let same = fault.0 in cc) (λ _. inr (fault.0, inr (inr (later fault.1))))
+      other_status _ _ _ status (λ e. let same = fault.0 in cc) (λ _. inr (fault.0, inr (inr (inr (later fault.1)))))
 
   -- a run's status, where text and files are told
   run_at : (rose : Rises) (First : Type 0) (t : List ℕ) (f : Files) (stop : Stop) (status : Status) → (First → rose.sink)
       → IsCaused rules (record rose { sink = First }) (Some t) (Some f) stop → status ≡ stop_status stop
-      → IsExactly IsRunStatus (CanRun rules t f) (rose.source ⊎ rose.reading ⊎ rose.writing ⊎ rose.sink) status
+      → IsExactly IsRunStatus (CanRun rules t f) (AnyRose rose) status
   run_at rose First t f TooLong status first why same =
       other_status _ _ _ status (no_run status _ same (λ e. cc) (λ e. cc)) (λ can. absurd (why can.commands can.served))
   run_at rose First t f Unspelled status first why same =
       other_status _ _ _ status (no_run status _ same (λ e. cc) (λ e. cc)) (λ can. absurd (why can.commands can.served))
   run_at rose First t f Unread status first why same =
       other_status _ _ _ status (no_run status _ same (λ e. cc) (λ e. cc)) (λ _. inr (same, inl why))
-  run_at rose First t f Unserved status first why same =
-      other_status _ _ _ status (no_run status _ same (λ e. cc) (λ e. cc)) (λ can. absurd (why.1.unserved can.image can.opens))
+  run_at rose First t f (Unserved code) status first why same =
+      other_status _ _ _ status (no_run status _ same (λ e. cc) (λ e. cc)) (λ can. absurd (why.1.unserved can.image can.serves))
   run_at rose First t f Unreadable status first why same =
       other_status _ _ _ status (no_run status _ same (λ e. cc) (λ e. cc)) (λ _. inr (same, inr (inl why.0)))
   run_at rose First t f Unwritten status first why same =
@@ -174,7 +182,7 @@ module _ {Image Command : Type 0} (rules : Rules Image Command) where
   -- a call that stopped ends with a run's status exactly where it should
   pub run_stopped : (rose : Rises) (First Part : Type 0) (text : Option (List ℕ)) (files : Option Files) (stop : Stop) (status : Status)
       → (First → rose.sink) → (Part → rose.sink) → IsCaused rules (record rose { sink = First }) text files stop → IsStopStatus Part stop status
-      → IfTold text (λ t. IfTold files (λ f. IsExactly IsRunStatus (CanRun rules t f) (rose.source ⊎ rose.reading ⊎ rose.writing ⊎ rose.sink) status))
+      → IfTold text (λ t. IfTold files (λ f. IsExactly IsRunStatus (CanRun rules t f) (AnyRose rose) status))
   run_stopped rose First Part None files stop status first later why is = tt
   run_stopped rose First Part (Some t) None stop status first later why is = tt
   run_stopped rose First Part (Some t) (Some f) stop status first later why (inl same) =
@@ -188,7 +196,7 @@ module _ {Image Command : Type 0} (rules : Rules Image Command) where
   file_ran Cause None files status run can = tt
   file_ran Cause (Some t) None status run can = tt
   file_ran Cause (Some t) (Some f) status run can =
-      other_status _ _ _ status (λ e. no_run status statuses.File e (λ o. cc) (λ o. cc) run) (λ r. absurd (r.unserved can.both.image can.both.opens))
+      other_status _ _ _ status (λ e. no_run status statuses.File e (λ o. cc) (λ o. cc) run) (λ r. absurd (r.unserved can.both.image can.both.serves))
 
   -- a run's status comes where the script can be run
   pub run_ran : (Cause : Type 0) (text : Option (List ℕ)) (files : Option Files) (status : Status) → IsRunStatus status → CanRunTold rules text files

@@ -6,10 +6,12 @@ use Rattle.alter_disk.specs.Outside.{Rises}
 use Rattle.alter_cli.specs.declared.status.Status.{Status}
 use Rattle.alter_cli.specs.declared.status.Status.TheVariants.{Fault}
 use Rattle.alter_cli.specs.declared.status.Status.TheVariants as statuses
-use Rattle.alter_cli.specs.declared.verdict.Verdict.{Verdict}
+use Rattle.plain_schema.specs.declared.verdict.Verdict.{Verdict}
 use Rattle.alter_cli.specs.Lines.{verdict_lines}
 use Rattle.alter_cli.specs.Rules.{Rules}
-use Rattle.alter_cli.specs.Outcome.{IsRunStatus, IsServed, RanAll, is_done, run_status, script_limit}
+use Rattle.alter_cli.specs.Left.{Each, Left}
+use Rattle.alter_cli.specs.Outcome.{IsRunStatus, IsServed, RanAll, run_status, script_limit}
+use Rattle.plain_schema.specs.Verdicts.{is_done}
 
 -- such a status comes only under the condition; and under it, unless want of memory or a fault with one of the causes comes
 pub record IsExactly (Wanted : Status → Type 0) (Condition Cause : Type 0) (status : Status) : Type 0 where
@@ -27,32 +29,32 @@ module _ {Image Command : Type 0} (rules : Rules Image Command) where
   abbrev pub IsUnserved : List ℕ → Type 0
   IsUnserved text = (commands : List Command) → IsServed rules text commands → ⊥
 
-  -- the text is a script, and the files have no image that is served
+  -- the text is a script, and the files open to no image that is served
   pub record IsFileRefused (text : List ℕ) (files : Files) : Type 0 where
     pub commands : List Command
     pub served : IsServed rules text commands
-    pub unserved : (image : Image) → rules.Opens files image → ⊥
+    pub unserved : (image : Image) → rules.Serves files image → ⊥
 
-  -- the text is a script, and the files have an image that is served
+  -- the text is a script, and the files open to an image that is served
   pub record CanRun (text : List ℕ) (files : Files) : Type 0 where
     pub commands : List Command
     pub served : IsServed rules text commands
     pub image : Image
-    pub opens : rules.Opens files image
+    pub serves : rules.Serves files image
 
-  -- every command was run, the files have the last image, the sink has a line for each and nothing else, and the status is
+  -- every command was run, the files, read or left by a crash, open to the last image, the sink has a line for each and nothing else, and the status is
   -- theirs
-  pub record RanWhole (text left : List ℕ) (before after : Files) (given now : List ℕ) (status : Status) : Type 0 where
+  pub record RanWhole (text left : List ℕ) (before : Files) (after : Left) (given now : List ℕ) (status : Status) : Type 0 where
     pub verdicts : List Verdict
     pub last : Image
     pub ran : RanAll rules text before verdicts last
-    pub files : rules.AreFiles after last
+    pub files : Each after (rules.OpensTo last)
     pub read : left ≡ []
     pub lines : now ≡ given ++ verdict_lines 1 verdicts
     pub ended : status ≡ run_status (list_all is_done verdicts)
 
   -- What can be run was run whole where nothing failed, unless memory ran out; and only what was run whole ends as a run.
-  pub record Completes (rose : Rises) (status : Status) (text left : List ℕ) (before after : Files) (given now : List ℕ) : Type 0 where
+  pub record Completes (rose : Rises) (status : Status) (after : Left) (text left : List ℕ) (before : Files) (given now : List ℕ) : Type 0 where
     pub whole : CanRun text before → (rose.source → ⊥) → (rose.reading → ⊥) → (rose.writing → ⊥) → (rose.sink → ⊥)
         → RanWhole text left before after given now status ⊎ (status ≡ statuses.Memory)
     pub only : IsRunStatus status → RanWhole text left before after given now status

@@ -1,20 +1,22 @@
 -- What a call's clauses say, over what was outside before it and is behind it.
-use Rattle.std.specs.Prelude.{◌≡◌, ◌⊎◌, ℕ, Option, is_some, IfNone, IfSome, IsSomeAnd, List}
+use Rattle.std.specs.Prelude.{◌≡◌, ◌⊎◌, ℕ, Option, Some, is_some, IfNone, IfSome, IsSomeAnd, List}
+use Rattle.alter_disk.specs.declared.disk.Disk.{Ghosts}
 use Rattle.alter_disk.specs.Files.{Files}
 use Rattle.alter_disk.specs.Changes.{IfTold}
-use Rattle.alter_disk.specs.Outside.{NoneFell, Span, rises}
+use Rattle.alter_disk.specs.Moments.{Leaves}
+use Rattle.alter_disk.specs.Outside.{AnyRose, NoneFell, Span, rises}
 use Rattle.alter_cli.specs.declared.status.Status.{Status}
 use Rattle.alter_cli.specs.declared.status.Status.TheVariants.{Fault, File, Script, Usage}
 use Rattle.alter_cli.specs.Causes.{CanRun, Completes, IsExactly, IsFileRefused, IsFrontTaken, IsUnserved}
-use Rattle.alter_cli.specs.Outcome.{IsRunStatus, Misused, Performed, Printed, file_of}
+use Rattle.alter_cli.specs.Left.{left_on}
+use Rattle.alter_cli.specs.Outcome.{IsOfRun, IsRunStatus, Misused, Performed, Printed, file_of}
 use Rattle.alter_cli.specs.Rules.{Rules}
 
 -- a fact on what source, disk and sink told before and tell now, which holds where one of them tells nothing
-abbrev pub WhereTold : (text left : Option (List ℕ)) (before after : Option Files) (given now : Option (List ℕ))
-    → (List ℕ → List ℕ → Files → Files → List ℕ → List ℕ → Type 0) → Type 0
-WhereTold text left before after given now P =
-    IfTold text (λ t. IfTold before (λ f. IfTold given (λ w.
-    IsSomeAnd left (λ l. IsSomeAnd after (λ a. IsSomeAnd now (λ n. P t l f a w n))))))
+abbrev pub WhereTold : (text left : Option (List ℕ)) (before : Option Files) (given now : Option (List ℕ))
+    → (List ℕ → List ℕ → Files → List ℕ → List ℕ → Type 0) → Type 0
+WhereTold text left before given now P =
+    IfTold text (λ t. IfTold before (λ f. IfTold given (λ w. IsSomeAnd left (λ l. IsSomeAnd now (λ n. P t l f w n)))))
 
 -- a fact of a call whose words name a file
 abbrev pub IfNamed : List (List ℕ) → Type 0 → Type 0
@@ -44,30 +46,43 @@ pub record Keeps (span : Span) : Type 0 where
   pub taken : IfTold span.before.left (λ text. IsSomeAnd span.now.left (IsFrontTaken text))
   pub counts : NoneFell span
 
-module _ {Image Command : Type 0} (rules : Rules Image Command) (span : Span) (status : Status) where
+module _ {Image Command : Type 0} (rules : Rules Image Command) {D : Type 0} (disk : Ghosts D) (old new : D) where
+  -- where source and disk tell: at each moment of the call a crash left what it could have left when the call began, or files
+  -- that stand for what the files then did, or that open to an image of the run
+  abbrev pub EndsStopped : Span → Type 0
+  EndsStopped span = IfTold span.before.left (λ text. IfTold (disk.files old) (λ files.
+      Leaves disk old new (λ c. rules.Alike files c ⊎ IsOfRun rules text files c)))
+
+  -- where the disk tells: files that open to no image that is served, and that a recovery leaves as they are, keep every byte
+  abbrev pub EndsUnwritten : Type 0
+  EndsUnwritten = IfTold (disk.files old) (λ files.
+      (rules.recovered files ≡ files) → ((image : Image) → rules.Serves files image → ⊥) → disk.files new ≡ Some files)
+
+module _ {Image Command : Type 0} (rules : Rules Image Command) {D : Type 0} (disk : Ghosts D) (old new : D) (span : Span) (status : Status) where
   -- where source, disk and sink tell: the lines, the status and both files
   abbrev pub EndsPerformed : Type 0
   EndsPerformed =
-      WhereTold span.before.left span.now.left span.before.files span.now.files span.before.written span.now.written
-      (λ text left before after given now. Performed rules (rises span) text before after span.now.called left given now status)
+      WhereTold span.before.left span.now.left span.before.files span.before.written span.now.written
+      (λ text left before given now. Performed rules (rises span) text before (disk.may_leave old) (left_on disk new) span.now.called left given now status)
 
   -- where source, disk and sink tell: what can be run is run whole where nothing fails, unless memory runs out
   abbrev pub EndsComplete : Type 0
   EndsComplete =
-      WhereTold span.before.left span.now.left span.before.files span.now.files span.before.written span.now.written
-      (Completes rules (rises span) status)
+      WhereTold span.before.left span.now.left span.before.files span.before.written span.now.written
+      (Completes rules (rises span) status (left_on disk new))
 
+module _ {Image Command : Type 0} (rules : Rules Image Command) (span : Span) (status : Status) where
   -- a script's status comes exactly where the text is no script that is served
   abbrev pub EndsByScript : Type 0
   EndsByScript = IfTold span.before.left (λ text.
       IsExactly (λ s. s ≡ Script) (IsUnserved rules text) ((rises span).source ⊎ (rises span).sink) status)
 
-  -- a file's status comes exactly where the text is a script and the files have no image that is served
+  -- a file's status comes exactly where the text is a script and the files open to no image that is served
   abbrev pub EndsByFile : Type 0
   EndsByFile = IfTold span.before.left (λ text. IfTold span.before.files (λ files.
-      IsExactly (λ s. s ≡ File) (IsFileRefused rules text files) ((rises span).source ⊎ (rises span).reading ⊎ (rises span).sink) status))
+      IsExactly (λ s. s ≡ File) (IsFileRefused rules text files) (AnyRose (rises span)) status))
 
-  -- the status of a run comes exactly where the text is a script and the files have an image that is served
+  -- the status of a run comes exactly where the text is a script and the files open to an image that is served
   abbrev pub EndsByRun : Type 0
   EndsByRun = IfTold span.before.left (λ text. IfTold span.before.files (λ files.
-      IsExactly IsRunStatus (CanRun rules text files) ((rises span).source ⊎ (rises span).reading ⊎ (rises span).writing ⊎ (rises span).sink) status))
+      IsExactly IsRunStatus (CanRun rules text files) (AnyRose (rises span)) status))

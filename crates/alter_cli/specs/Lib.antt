@@ -1,6 +1,8 @@
 pub mod Status
+pub mod Codes
 pub mod Lines
 pub mod Given
+pub mod Left
 pub mod Rules
 pub mod Run
 pub mod Outcome
@@ -8,13 +10,5 @@ pub mod Causes
 pub mod Ending
 pub mod StopOf
 pub mod Stops
-pub mod Image
-pub mod Header
-pub mod Sizes
-pub mod FirstPage
-pub mod FirstForm
-pub mod Served
-pub mod Step
-pub mod Plan
-pub mod Opens
-pub mod Carried
+pub mod First
+pub mod Opened

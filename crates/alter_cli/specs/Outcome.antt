@@ -1,15 +1,20 @@
 -- How a call with a file's name ends.
 use Rattle.std.specs.Prelude.{◌≡◌, ◌≤◌, ◌<◌, ℕ, ◌+◌, ◌⊎◌, Bool, true, false, List, [], ◌∷◌, ◌++◌, length, take, drop, slice_get, Option, Some, None}
 use Rattle.std.specs.List.{list_all}
+use Rattle.alter_disk.specs.Crash.{NoMore}
 use Rattle.alter_disk.specs.Files.{Files}
 use Rattle.alter_disk.specs.Outside.{ReadRose, Rises}
-use Rattle.alter_cli.specs.declared.verdict.Verdict.{Verdict}
-use Rattle.alter_cli.specs.declared.verdict.Verdict.TheVariants as verdicts
+use Rattle.plain_schema.specs.declared.verdict.Verdict.{Verdict}
+use Rattle.plain_schema.specs.declared.verdict.Verdict.TheVariants as verdicts
 use Rattle.alter_cli.specs.declared.status.Status.{Status}
 use Rattle.alter_cli.specs.declared.status.Status.TheVariants.{Done, Refused, Script, File, Fault, Memory, Usage}
+use Rattle.alter_cli.specs.declared.file_code.FileCode.{FileCode}
+use Rattle.alter_cli.specs.Codes.{file_line}
+use Rattle.alter_cli.specs.Left.{Each, EachCrash, Left}
+use Rattle.alter_cli.specs.Lines.{verdict_lines, usage_line, too_long_line, script_unbuilt_line, fault_read_line, fault_write_line, memory_line}
 use Rattle.alter_cli.specs.Rules.{Rules}
 use Rattle.alter_cli.specs.Run.{Run}
-use Rattle.alter_cli.specs.Lines.{verdict_lines, usage_line, too_long_line, script_unbuilt_line, file_unbuilt_line, fault_read_line, fault_write_line, memory_line}
+use Rattle.plain_schema.specs.Verdicts.{is_done}
 
 -- the longest script, in bytes
 abbrev pub script_limit : ℕ
@@ -21,11 +26,6 @@ file_of [] = None
 file_of (program ∷ []) = None
 file_of (program ∷ file ∷ []) = Some file
 file_of (program ∷ file ∷ word ∷ words) = None
-
--- whether the command is done
-abbrev pub is_done : Verdict → Bool
-is_done verdicts.Done = true
-is_done (verdicts.Refused refusal) = false
 
 -- the script was run to its end
 abbrev pub IsRunStatus : Status → Type 0
@@ -45,7 +45,7 @@ abbrev pub IsLastLine : Rises → Status → List ℕ → Type 0
 IsLastLine rose Done line = line ≡ []
 IsLastLine rose Refused line = line ≡ []
 IsLastLine rose Script line = (line ≡ too_long_line) ⊎ (line ≡ script_unbuilt_line)
-IsLastLine rose File line = line ≡ file_unbuilt_line
+IsLastLine rose File line = (code : FileCode) × (line ≡ file_line code)
 IsLastLine rose Fault line = (ReadRose rose × (line ≡ fault_read_line)) ⊎ (rose.writing × (line ≡ fault_write_line)) ⊎ (rose.sink × (line ≡ []))
 IsLastLine rose Memory line = line ≡ memory_line
 IsLastLine rose Usage line = line ≡ usage_line
@@ -75,19 +75,24 @@ pub record Printed (rose : Rises) (given now : List ℕ) (status : Status) : Typ
 abbrev pub Misused : Rises → List ℕ → List ℕ → Status → Type 0
 Misused rose given now status = Told rose Usage [] usage_line given now status
 
+-- the files read as they did, and a crash leaves no more of them than it could
+pub record IsUntouched (before : Files) (could : Files → Type 0) (after : Left) : Type 0 where
+  pub read : after.reads ≡ Some before
+  pub crash : NoMore could after.crash
+
 module _ {Image Command : Type 0} (rules : Rules Image Command) where
   -- the text is a script, not too long, of these commands
   pub record IsServed (text : List ℕ) (commands : List Command) : Type 0 where
     pub short : length text ≤ script_limit
     pub script : rules.IsScript text commands
 
-  -- The first so many commands of the script were run on the image of the files before, with these verdicts,
+  -- The first so many commands of the script were run on the image to which the files before open, with these verdicts,
   -- and the image after them is this.
   pub record Ran (text : List ℕ) (before : Files) (count : ℕ) (verdicts : List Verdict) (last : Image) : Type 0 where
     pub commands : List Command
     pub served : IsServed text commands
     pub image : Image
-    pub opens : rules.Opens before image
+    pub serves : rules.Serves before image
     pub run : Run rules image (take count commands) verdicts last
 
   -- every command of the script was run
@@ -95,59 +100,74 @@ module _ {Image Command : Type 0} (rules : Rules Image Command) where
     pub commands : List Command
     pub served : IsServed text commands
     pub image : Image
-    pub opens : rules.Opens before image
+    pub serves : rules.Serves before image
     pub run : Run rules image commands verdicts last
 
-  -- the command behind the first so many is done on this image
-  pub record IsNextDone (text : List ℕ) (count : ℕ) (image : Image) : Type 0 where
+  -- the command behind the first so many is done on this image, and leaves the other
+  pub record IsNextDone (text : List ℕ) (count : ℕ) (image new : Image) : Type 0 where
     pub commands : List Command
     pub served : IsServed text commands
     pub command : Command
     pub next : slice_get commands count ≡ Some command
-    pub new : Image
     pub step : rules.Step image command verdicts.Done new
 
-  -- nothing was run and the files are as they were, or some commands were run on the disk, and the files have the image after
-  -- them
-  abbrev pub Stopped : List ℕ → Files → List Verdict → Files → Bool → Type 0
-  Stopped text before verdicts after called =
-      ((verdicts ≡ []) × (after ≡ before))
-      ⊎ ((count : ℕ) × (last : Image) × Ran text before count verdicts last × rules.AreFiles after last × (called ≡ true))
+  -- a crash could have left the files so when the call began, or they stand for what the files before did
+  abbrev pub IsAsBefore : Files → (Files → Type 0) → Files → Type 0
+  IsAsBefore before could c = could c ⊎ rules.Alike before c
 
-  -- some commands were run, and the next one, which is done, was being written on the files that they left
-  abbrev pub StoppedWriting : List ℕ → Files → List Verdict → Files → Type 0
+  -- the files open to an image of a run over some of the commands
+  abbrev pub IsOfRun : List ℕ → Files → Files → Type 0
+  IsOfRun text before c = (count : ℕ) × (verdicts : List Verdict) × (last : Image) × Ran text before count verdicts last × rules.OpensTo last c
+
+  -- the files open to this image, or to the one after the command behind the first so many, which is done
+  abbrev pub IsBetween : List ℕ → ℕ → Image → Files → Type 0
+  IsBetween text count last c = rules.OpensTo last c ⊎ ((new : Image) × IsNextDone text count last new × rules.OpensTo new c)
+
+  -- some commands were run, and the files, read or left by a crash, open to the image behind them
+  abbrev pub HasRun : List ℕ → Files → List Verdict → Left → Bool → Type 0
+  HasRun text before verdicts after called =
+      (count : ℕ) × (last : Image) × Ran text before count verdicts last × Each after (rules.OpensTo last) × (called ≡ true)
+
+  -- there is no verdict, and a crash leaves the files as before
+  abbrev pub IsUnrun : Files → (Files → Type 0) → List Verdict → Left → Type 0
+  IsUnrun before could verdicts after = (verdicts ≡ []) × EachCrash after (IsAsBefore before could)
+
+  -- some commands were run, and a crash leaves the files before or after the next one
+  abbrev pub StoppedWriting : List ℕ → Files → List Verdict → Left → Type 0
   StoppedWriting text before verdicts after =
-      (count : ℕ) × (last : Image) × (files : Files) × Ran text before count verdicts last × rules.AreFiles files last
-      × IsNextDone text count last × rules.IsTorn files after
+      (count : ℕ) × (last : Image) × Ran text before count verdicts last × EachCrash after (IsBetween text count last)
 
   -- How a call ends with this status, by the counts that rose in it: the verdicts that it gives, the line behind theirs,
-  -- the files after it, whether the disk was called, and what is left of the script.
-  abbrev pub Outcome : Rises → List ℕ → Files → Status → List Verdict → List ℕ → Files → Bool → List ℕ → Type 0
-  Outcome rose text before Done verdicts last after called left =
-      (image : Image) × RanAll text before verdicts image × rules.AreFiles after image × (list_all is_done verdicts ≡ true) × (last ≡ []) × (left ≡ [])
+  -- what the disk has after it, whether the disk was called, and what is left of the script.
+  abbrev pub Outcome : Rises → List ℕ → Files → (Files → Type 0) → Status → List Verdict → List ℕ → Left → Bool → List ℕ → Type 0
+  Outcome rose text before could Done verdicts last after called left =
+      (image : Image) × RanAll text before verdicts image × Each after (rules.OpensTo image) × (list_all is_done verdicts ≡ true) × (last ≡ []) × (left ≡ [])
       × (called ≡ true)
-  Outcome rose text before Refused verdicts last after called left =
-      (image : Image) × RanAll text before verdicts image × rules.AreFiles after image × (list_all is_done verdicts ≡ false) × (last ≡ []) × (left ≡ [])
+  Outcome rose text before could Refused verdicts last after called left =
+      (image : Image) × RanAll text before verdicts image × Each after (rules.OpensTo image) × (list_all is_done verdicts ≡ false) × (last ≡ []) × (left ≡ [])
       × (called ≡ true)
-  Outcome rose text before Script verdicts last after called left =
-      (verdicts ≡ []) × (after ≡ before) × (called ≡ false)
+  Outcome rose text before could Script verdicts last after called left =
+      (verdicts ≡ []) × IsUntouched before could after × (called ≡ false)
       × (((script_limit < length text) × (last ≡ too_long_line) × (left ≡ drop (script_limit + 1) text))
       ⊎ ((length text ≤ script_limit) × ((commands : List Command) → rules.IsScript text commands → ⊥) × (last ≡ script_unbuilt_line) × (left ≡ [])))
-  Outcome rose text before File verdicts last after called left =
-      (verdicts ≡ []) × (after ≡ before) × (called ≡ true) × (last ≡ file_unbuilt_line) × (left ≡ [])
-      × ((commands : List Command) × IsServed text commands) × ((image : Image) → rules.Opens before image → ⊥)
-  Outcome rose text before Fault verdicts last after called left =
-      (rose.source × (verdicts ≡ []) × (after ≡ before) × (last ≡ fault_read_line) × (called ≡ false))
-      ⊎ (rose.reading × ((commands : List Command) × IsServed text commands) × (verdicts ≡ []) × (after ≡ before) × (last ≡ fault_read_line) × (called ≡ true))
-      ⊎ (rose.writing × StoppedWriting text before verdicts after × (last ≡ fault_write_line) × (called ≡ true))
-      ⊎ (rose.sink × Stopped text before verdicts after called × (last ≡ []))
-  Outcome rose text before Memory verdicts last after called left = Stopped text before verdicts after called × (last ≡ memory_line)
-  Outcome rose text before Usage verdicts last after called left = ⊥
+  Outcome rose text before could File verdicts last after called left =
+      (verdicts ≡ []) × (code : FileCode) × rules.Refuses before code × (last ≡ file_line code) × Each after (λ c. c ≡ rules.recovered before) × (called ≡ true)
+      × (left ≡ []) × ((commands : List Command) × IsServed text commands) × ((image : Image) → rules.Serves before image → ⊥)
+  Outcome rose text before could Fault verdicts last after called left =
+      (rose.source × (verdicts ≡ []) × IsUntouched before could after × (last ≡ fault_read_line) × (called ≡ false))
+      ⊎ (rose.reading × ((commands : List Command) × IsServed text commands) × (IsUnrun before could verdicts after ⊎ HasRun text before verdicts after called)
+      × (last ≡ fault_read_line) × (called ≡ true))
+      ⊎ (rose.writing × ((commands : List Command) × IsServed text commands) × (IsUnrun before could verdicts after ⊎ StoppedWriting text before verdicts after)
+      × (last ≡ fault_write_line) × (called ≡ true))
+      ⊎ (rose.sink × HasRun text before verdicts after called × (last ≡ []))
+  Outcome rose text before could Memory verdicts last after called left =
+      (IsUnrun before could verdicts after ⊎ HasRun text before verdicts after called) × (last ≡ memory_line)
+  Outcome rose text before could Usage verdicts last after called left = ⊥
 
   -- the call with a file's name ended with this status, and the sink that had `given` has `now`
-  pub record Performed (rose : Rises) (text : List ℕ) (before after : Files) (called : Bool) (left given now : List ℕ) (status : Status) : Type 0 where
+  pub record Performed (rose : Rises) (text : List ℕ) (before : Files) (could : Files → Type 0) (after : Left) (called : Bool) (left given now : List ℕ) (status : Status) : Type 0 where
     pub planned : Status
     pub verdicts : List Verdict
     pub last : List ℕ
-    pub outcome : Outcome rose text before planned verdicts last after called left
+    pub outcome : Outcome rose text before could planned verdicts last after called left
     pub told : Told rose planned verdicts last given now status

@@ -1,6 +1,6 @@
 -- Commands one after the other.
 use Rattle.std.specs.Prelude.{◌≡◌, List, [], ◌∷◌}
-use Rattle.alter_cli.specs.declared.verdict.Verdict.{Verdict}
+use Rattle.plain_schema.specs.declared.verdict.Verdict.{Verdict}
 use Rattle.alter_cli.specs.Rules.{Rules}
 
 module _ {Image Command : Type 0} (rules : Rules Image Command) where

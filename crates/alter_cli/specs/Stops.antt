@@ -1,20 +1,25 @@
 -- Why a call stops, and what its parts leave.
 use Rattle.std.specs.Prelude.{◌≡◌, ◌⊎◌, ◌≤◌, ◌<◌, ℕ, ◌+◌, Bool, Option, Some, Result, Ok, Err, IsSomeAnd, List, [], ◌∷◌, ◌++◌, length, take, drop}
 use Rattle.std.specs.List.{list_all, slice_get}
+use Rattle.alter_disk.specs.declared.disk.Disk.{Ghosts}
 use Rattle.alter_disk.specs.Files.{Files}
 use Rattle.alter_disk.specs.Changes.{IfTold}
 use Rattle.alter_disk.specs.Outside.{Rises, Span, rises}
+use Rattle.alter_cli.specs.declared.file_code.FileCode.{FileCode}
 use Rattle.alter_cli.specs.declared.stop.Stop.{Stop}
 use Rattle.alter_cli.specs.declared.stop.Stop.TheVariants.{Misused, TooLong, Unspelled, Unread, Unserved, Unreadable, Unwritten, Unprinted, Memory}
-use Rattle.alter_cli.specs.declared.verdict.Verdict.{Verdict}
-use Rattle.alter_cli.specs.declared.verdict.Verdict.TheVariants.{Done}
+use Rattle.plain_schema.specs.declared.verdict.Verdict.{Verdict}
+use Rattle.plain_schema.specs.declared.verdict.Verdict.TheVariants.{Done}
 use Rattle.alter_cli.specs.declared.status.Status.{Status}
 use Rattle.alter_cli.specs.declared.status.Status.TheVariants as statuses
 use Rattle.alter_cli.specs.Causes.{CanRun, IsFileRefused, IsUnserved}
 use Rattle.alter_cli.specs.Ending.{WhereTold}
 use Rattle.alter_cli.specs.Given.{WroteFront}
-use Rattle.alter_cli.specs.Lines.{verdict_line, verdict_lines, usage_line, too_long_line, script_unbuilt_line, file_unbuilt_line, fault_read_line, fault_write_line, memory_line}
-use Rattle.alter_cli.specs.Outcome.{IsServed, Outcome, is_done, run_status, script_limit}
+use Rattle.alter_cli.specs.Codes.{file_line}
+use Rattle.alter_cli.specs.Left.{Each, EachCrash, Left, left_on}
+use Rattle.alter_cli.specs.Lines.{verdict_lines, usage_line, too_long_line, script_unbuilt_line, fault_read_line, fault_write_line, memory_line}
+use Rattle.plain_schema.specs.Verdicts.{is_done, verdict_line}
+use Rattle.alter_cli.specs.Outcome.{IsAsBefore, IsServed, Outcome, run_status, script_limit}
 use Rattle.alter_cli.specs.Rules.{Rules}
 use Rattle.alter_cli.specs.Run.{Run}
 
@@ -23,7 +28,7 @@ abbrev pub stop_status : Stop → Status
 stop_status Misused = statuses.Usage
 stop_status TooLong = statuses.Script
 stop_status Unspelled = statuses.Script
-stop_status Unserved = statuses.File
+stop_status (Unserved code) = statuses.File
 stop_status Memory = statuses.Memory
 stop_status _ = statuses.Fault
 
@@ -33,18 +38,19 @@ stop_line Misused = usage_line
 stop_line TooLong = too_long_line
 stop_line Unspelled = script_unbuilt_line
 stop_line Unread = fault_read_line
-stop_line Unserved = file_unbuilt_line
+stop_line (Unserved code) = file_line code
 stop_line Unreadable = fault_read_line
 stop_line Unwritten = fault_write_line
 stop_line Unprinted = []
 stop_line Memory = memory_line
 
--- a run of commands stops by a failure of writing or of the sink, each with its cause, or for want of memory
-abbrev pub IsRunStop : Type 0 → Type 0 → Stop → Type 0
-IsRunStop Write Sunk Unwritten = Write
-IsRunStop Write Sunk Unprinted = Sunk
-IsRunStop Write Sunk Memory = Unit {0}
-IsRunStop Write Sunk _ = ⊥
+-- a run of commands stops by a failure of reading, of writing or of the sink, each with its cause, or for want of memory
+abbrev pub IsRunStop : Type 0 → Type 0 → Type 0 → Stop → Type 0
+IsRunStop Read Write Sunk Unreadable = Read
+IsRunStop Read Write Sunk Unwritten = Write
+IsRunStop Read Write Sunk Unprinted = Sunk
+IsRunStop Read Write Sunk Memory = Unit {0}
+IsRunStop Read Write Sunk _ = ⊥
 
 -- The last line of a call that stopped was written, or a front of it after a failure of the sink.
 abbrev pub IsLast : Type 0 → Stop → Status → List ℕ → List ℕ → Type 0
@@ -69,11 +75,15 @@ GaveLines Sunk given now (Ok all_done) =
     (verdicts : List Verdict) × (all_done ≡ list_all is_done verdicts) × (now ≡ given ++ verdict_lines 1 verdicts)
 GaveLines Sunk given now (Err TooLong) = now ≡ given
 GaveLines Sunk given now (Err Unspelled) = now ≡ given
-GaveLines Sunk given now (Err Unserved) = now ≡ given
+GaveLines Sunk given now (Err (Unserved code)) = now ≡ given
 GaveLines Sunk given now (Err Unprinted) =
     Sunk × ((verdicts : List Verdict) × (verdict : Verdict)
     × WroteFront (given ++ verdict_lines 1 verdicts) (verdict_line (1 + length verdicts) verdict) (Some now))
 GaveLines Sunk given now (Err stop) = (verdicts : List Verdict) × (now ≡ given ++ verdict_lines 1 verdicts)
+
+-- a sink that had `given`, where it is told, has the lines of the verdicts as well
+abbrev pub HasLines : Option (List ℕ) → Option (List ℕ) → List Verdict → Type 0
+HasLines given now verdicts = IfTold given (λ w. now ≡ Some (w ++ verdict_lines 1 verdicts))
 
 module _ {Image Command : Type 0} (rules : Rules Image Command) where
   -- why there is no script, by what the source had and has left
@@ -85,90 +95,125 @@ module _ {Image Command : Type 0} (rules : Rules Image Command) where
   NoScript Faulted had left Memory = Unit {0}
   NoScript Faulted had left _ = ⊥
 
-  -- why there is no form
-  abbrev pub NoForm : Type 0 → Option Files → Stop → Type 0
-  NoForm Faulted told Unserved = IfTold told (λ files. (image : Image) → rules.Opens files image → ⊥)
-  NoForm Faulted told Unreadable = Faulted
-  NoForm Faulted told Memory = Unit {0}
-  NoForm Faulted told _ = ⊥
+  -- the files, where they are told, are left as before by each crash
+  abbrev pub IsLeftAlike : Left → Left → Type 0
+  IsLeftAlike old new = IfTold old.reads (λ files. EachCrash new (IsAsBefore rules files old.crash))
 
-  -- These commands were run on an image: the files have the last image, and the sink that had `given` has the lines of
-  -- the verdicts as well.
-  pub record RanTo (image : Image) (commands : List Command) (given : List ℕ) (after : Option Files) (now : Option (List ℕ)) (verdicts : List Verdict) : Type 0 where
+  -- the files are refused with this code, they are the recovered ones, and they open to no image that is served
+  pub record IsRefusedSo (files : Files) (code : FileCode) (after : Left) : Type 0 where
+    pub refused : rules.Refuses files code
+    pub rests : Each after (λ c. c ≡ rules.recovered files)
+    pub unserved : (image : Image) → rules.Serves files image → ⊥
+
+  -- why the files were not opened, by what the disk had and has
+  abbrev pub NoSession : Type 0 → Type 0 → Left → Left → Stop → Type 0
+  NoSession Read Write old new (Unserved code) = IfTold old.reads (λ files. IsRefusedSo files code new)
+  NoSession Read Write old new Unreadable = Read × IsLeftAlike old new
+  NoSession Read Write old new Unwritten = Write × IsLeftAlike old new
+  NoSession Read Write old new Memory = IsLeftAlike old new
+  NoSession Read Write old new _ = ⊥
+
+  -- These commands were run on an image: the files, read or left by a crash, open to the last image, and the sink has the
+  -- lines of the verdicts as well.
+  pub record RanTo (image : Image) (commands : List Command) (given : Option (List ℕ)) (after : Left) (now : Option (List ℕ)) (verdicts : List Verdict) : Type 0 where
     pub last : Image
-    pub files : Files
     pub run : Run rules image commands verdicts last
-    pub told : after ≡ Some files
-    pub are : rules.AreFiles files last
-    pub lines : now ≡ Some (given ++ verdict_lines 1 verdicts)
+    pub files : Each after (rules.OpensTo last)
+    pub lines : HasLines given now verdicts
 
   -- all of these commands were run, and each of them is done or not
-  abbrev pub RanEach : Image → List Command → List ℕ → Option Files → Option (List ℕ) → Bool → Type 0
+  abbrev pub RanEach : Image → List Command → Option (List ℕ) → Left → Option (List ℕ) → Bool → Type 0
   RanEach image commands given after now all_done =
       (verdicts : List Verdict) × RanTo image commands given after now verdicts × (all_done ≡ list_all is_done verdicts)
 
-  -- some of these commands were run, and the next, which is done, was being written
-  pub record TornAt (image : Image) (commands : List Command) (given : List ℕ) (after : Option Files) (now : Option (List ℕ)) : Type 0 where
+  -- the files open to this image, or to the one after the command at this place, which is done
+  abbrev pub IsNear : List Command → ℕ → Image → Files → Type 0
+  IsNear commands place last c =
+      rules.OpensTo last c ⊎ ((command : Command) × (slice_get commands place ≡ Some command) × ((new : Image) × rules.Step last command Done new × rules.OpensTo new c))
+
+  -- some of these commands were run, and the next was being written
+  pub record TornAt (image : Image) (commands : List Command) (given : Option (List ℕ)) (after : Left) (now : Option (List ℕ)) : Type 0 where
     pub count : ℕ
     pub verdicts : List Verdict
-    pub files : Files
-    pub ran : RanTo image (take count commands) given (Some files) now verdicts
-    pub command : Command
-    pub next : slice_get commands count ≡ Some command
-    pub new : Image
-    pub step : rules.Step ran.last command Done new
-    pub torn : IsSomeAnd after (rules.IsTorn files)
+    pub last : Image
+    pub run : Run rules image (take count commands) verdicts last
+    pub files : EachCrash after (IsNear commands count last)
+    pub lines : HasLines given now verdicts
 
   -- some of these commands were run, and the line of the last of them was not printed to its end
-  pub record UnprintedAt (image : Image) (commands : List Command) (given : List ℕ) (after : Option Files) (now : Option (List ℕ)) : Type 0 where
+  pub record UnprintedAt (image : Image) (commands : List Command) (given : Option (List ℕ)) (after : Left) (now : Option (List ℕ)) : Type 0 where
     pub count : ℕ
     pub verdicts : List Verdict
     pub verdict : Verdict
     pub last : Image
-    pub files : Files
     pub run : Run rules image (take count commands) (verdicts ++ verdict ∷ []) last
-    pub told : after ≡ Some files
-    pub are : rules.AreFiles files last
-    pub front : WroteFront (given ++ verdict_lines 1 verdicts) (verdict_line (1 + length verdicts) verdict) now
+    pub files : Each after (rules.OpensTo last)
+    pub front : IfTold given (λ w. WroteFront (w ++ verdict_lines 1 verdicts) (verdict_line (1 + length verdicts) verdict) now)
+
+  -- some of these commands were run
+  abbrev pub RanSome : Image → List Command → Option (List ℕ) → Left → Option (List ℕ) → Type 0
+  RanSome image commands given after now = (count : ℕ) × (verdicts : List Verdict) × RanTo image (take count commands) given after now verdicts
 
   -- why not all of these commands were run on an image, by the files and the sink after them
-  abbrev pub StoppedAt : Type 0 → Type 0 → Image → List Command → List ℕ → Option Files → Option (List ℕ) → Stop → Type 0
-  StoppedAt Write Sunk image commands given after now Memory =
-      (count : ℕ) × (verdicts : List Verdict) × RanTo image (take count commands) given after now verdicts
-  StoppedAt Write Sunk image commands given after now Unwritten = Write × TornAt image commands given after now
-  StoppedAt Write Sunk image commands given after now Unprinted = Sunk × UnprintedAt image commands given after now
-  StoppedAt Write Sunk image commands given after now _ = ⊥
+  abbrev pub StoppedAt : Type 0 → Type 0 → Type 0 → Image → List Command → Option (List ℕ) → Left → Option (List ℕ) → Stop → Type 0
+  StoppedAt Read Write Sunk image commands given after now Memory = RanSome image commands given after now
+  StoppedAt Read Write Sunk image commands given after now Unreadable = Read × RanSome image commands given after now
+  StoppedAt Read Write Sunk image commands given after now Unwritten = Write × TornAt image commands given after now
+  StoppedAt Read Write Sunk image commands given after now Unprinted = Sunk × UnprintedAt image commands given after now
+  StoppedAt Read Write Sunk image commands given after now _ = ⊥
 
-  -- the files, as far as they are told, have the image of which the fact holds, and so another holds of it and of what the sink
-  -- was given
-  abbrev pub OfImage : Option Files → Option (List ℕ) → (Image → Type 0) → (Image → List ℕ → Type 0) → Type 0
-  OfImage before had IsOf P = IfTold before (λ files. IfTold had (λ given. (image : Image) → rules.AreFiles files image → IsOf image → P image given))
+  -- the files open to an image of a run over some of these commands
+  abbrev pub IsReachedBy : Image → List Command → Files → Type 0
+  IsReachedBy image commands c =
+      (count : ℕ) × (verdicts : List Verdict) × (last : Image) × Run rules image (take count commands) verdicts last × rules.OpensTo last c
 
-  -- the files have an image that is served, of which the fact holds
+  -- the files open to an image that is served, of which the fact holds
   pub record OpensOf (IsOf : Image → Type 0) (files : Files) : Type 0 where
     pub image : Image
-    pub are : rules.AreFiles files image
-    pub opens : rules.Opens files image
+    pub serves : rules.Serves files image
     pub of : IsOf image
 
+  -- what a command of this number made of an image of which the first fact holds: a step, and the second fact of the new image
+  abbrev pub Makes : (Image → Type 0) → Command → Verdict → (Image → Type 0) → Type 0
+  Makes IsOf command verdict IsNew = (last : Image) → IsOf last → (new : Image) × rules.Step last command verdict new × IsNew new
+
+  -- the files, read or left by a crash, open to each image of which the fact holds
+  abbrev pub IsOpenTo : (Image → Type 0) → Left → Type 0
+  IsOpenTo IsOf after = (image : Image) → IsOf image → Each after (rules.OpensTo image)
+
+  -- the files open to this image, or to the one after the command, which is done
+  abbrev pub MayHave : Image → Command → Files → Type 0
+  MayHave image command c = rules.OpensTo image c ⊎ ((new : Image) × rules.Step image command Done new × rules.OpensTo new c)
+
+  -- why a command of this number was not run to its end on an image of which the fact holds, by the files and the sink
+  abbrev pub NotRun : Type 0 → Type 0 → Type 0 → (Image → Type 0) → ℕ → Command → Left → Option (List ℕ) → Option (List ℕ) → Stop → Type 0
+  NotRun Read Write Sunk IsOf number command after had has Memory = IsOpenTo IsOf after × (has ≡ had)
+  NotRun Read Write Sunk IsOf number command after had has Unreadable = Read × IsOpenTo IsOf after × (has ≡ had)
+  NotRun Read Write Sunk IsOf number command after had has Unwritten =
+      Write × ((image : Image) → IsOf image → EachCrash after (MayHave image command)) × (has ≡ had)
+  NotRun Read Write Sunk IsOf number command after had has Unprinted =
+      Sunk × ((verdict : Verdict) × Makes IsOf command verdict (λ image. Each after (rules.OpensTo image))
+      × IfTold had (λ given. WroteFront given (verdict_line number verdict) has))
+  NotRun Read Write Sunk IsOf number command after had has _ = ⊥
+
   -- The call ran its commands, each of them done or not, or stopped so. The line of a stop is still to come.
-  abbrev pub RanSo : Rises → Bool → Result Bool Stop → List ℕ → List ℕ → Files → Files → List ℕ → List ℕ → Type 0
-  RanSo rose called (Ok all_done) text left before after given now =
-      (verdicts : List Verdict) × Outcome rules rose text before (run_status all_done) verdicts [] after called left
+  abbrev pub RanSo : Rises → (Files → Type 0) → Left → Bool → Result Bool Stop → List ℕ → List ℕ → Files → List ℕ → List ℕ → Type 0
+  RanSo rose could after called (Ok all_done) text left before given now =
+      (verdicts : List Verdict) × Outcome rules rose text before could (run_status all_done) verdicts [] after called left
       × (now ≡ given ++ verdict_lines 1 verdicts)
-  RanSo rose called (Err Unprinted) text left before after given now =
+  RanSo rose could after called (Err Unprinted) text left before given now =
       rose.sink × ((verdicts : List Verdict) × (verdict : Verdict)
-      × Outcome rules rose text before statuses.Fault (verdicts ++ verdict ∷ []) [] after called left
+      × Outcome rules rose text before could statuses.Fault (verdicts ++ verdict ∷ []) [] after called left
       × WroteFront (given ++ verdict_lines 1 verdicts) (verdict_line (1 + length verdicts) verdict) (Some now))
-  RanSo rose called (Err stop) text left before after given now =
-      (verdicts : List Verdict) × Outcome rules rose text before (stop_status stop) verdicts (stop_line stop) after called left
+  RanSo rose could after called (Err stop) text left before given now =
+      (verdicts : List Verdict) × Outcome rules rose text before could (stop_status stop) verdicts (stop_line stop) after called left
       × (now ≡ given ++ verdict_lines 1 verdicts)
 
   -- the text is a script, where it is told
   abbrev pub IsScriptTold : Option (List ℕ) → Type 0
   IsScriptTold text = IfTold text (λ t. (commands : List Command) × IsServed rules t commands)
 
-  -- the text is a script where it is told, and the files have an image that is served where they are told too
+  -- the text is a script where it is told, and the files open to an image that is served where they are told too
   pub record CanRunTold (text : Option (List ℕ)) (files : Option Files) : Type 0 where
     pub script : IsScriptTold text
     pub both : IfTold text (λ t. IfTold files (CanRun rules t))
@@ -178,18 +223,18 @@ module _ {Image Command : Type 0} (rules : Rules Image Command) where
   IsCaused rose text files TooLong = IfTold text (IsUnserved rules)
   IsCaused rose text files Unspelled = IfTold text (IsUnserved rules)
   IsCaused rose text files Unread = rose.source
-  IsCaused rose text files Unserved = IsScriptTold text × IfTold text (λ t. IfTold files (IsFileRefused rules t))
+  IsCaused rose text files (Unserved code) = IsScriptTold text × IfTold text (λ t. IfTold files (IsFileRefused rules t))
   IsCaused rose text files Unreadable = rose.reading × IsScriptTold text
-  IsCaused rose text files Unwritten = rose.writing × CanRunTold text files
+  IsCaused rose text files Unwritten = rose.writing × IsScriptTold text
   IsCaused rose text files Unprinted = rose.sink × CanRunTold text files
   IsCaused rose text files Memory = Unit {0}
   IsCaused rose text files Misused = ⊥
 
   -- where source, disk and sink tell, the call ran its commands or stopped so
-  abbrev pub RunsSo : Span → Result Bool Stop → Type 0
-  RunsSo span result =
-      WhereTold span.before.left span.now.left span.before.files span.now.files span.before.written span.now.written
-      (RanSo (rises span) span.now.called result)
+  abbrev pub RunsSo : {D : Type 0} → Ghosts D → D → D → Span → Result Bool Stop → Type 0
+  RunsSo disk old new span result =
+      WhereTold span.before.left span.now.left span.before.files span.before.written span.now.written
+      (RanSo (rises span) (disk.may_leave old) (left_on disk new) span.now.called result)
 
   -- whatever is told, the stop has its cause
   abbrev pub StopsBy : Span → Stop → Type 0

@@ -1,60 +1,87 @@
-//! The file of the call, opened and read.
-ghost use Rattle.std.specs.Prelude.{◌≡◌, IfOk, IfErr, IfSome, IsErrOf, false};
+//! The file of the call, opened.
+ghost use Rattle.std.specs.Prelude.{◌≡◌, false, Some, IfErr, IfOk, IfSome};
 ghost use Rattle.alter_disk.specs.Changes.{IfTold};
-ghost use Rattle.alter_disk.specs.Uses.{OnlyOpens, ReadFailed};
-ghost use Rattle.alter_cli.specs.Opens.{first_rules};
-ghost use Rattle.alter_cli.specs.Served.{AreOfForm, IsReady};
-ghost use Rattle.alter_cli.specs.Stops.{NoForm};
+ghost use Rattle.alter_disk.specs.Moments.{Leaves};
+ghost use Rattle.alter_disk.specs.Uses.{ReadFailed, WriteFailed};
+ghost use Rattle.rollback_journal.specs.Recovery.{recovered};
+ghost use Rattle.rollback_journal.specs.Standing.{standing};
+ghost use Rattle.alter_session.specs.Session.{Holds, IsReady};
+ghost use Rattle.alter_cli.specs.First.{first_rules};
+ghost use Rattle.alter_cli.specs.Left.{left_on};
+ghost use Rattle.alter_cli.specs.Opened.{IsUnopened, OpensQuietly, StaysOpen, disk_open};
+ghost use Rattle.alter_cli.specs.StopOf.{stop_of_error, stop_of_way};
+ghost use Rattle.alter_cli.specs.Stops.{NoSession, OpensOf};
 
-use crate::file::{ReadFault, form_of, read_first};
-use crate::form::Form;
+use crate::file_code::FileCode;
+use crate::halted::Halted;
 use crate::stop::Stop;
-use alter_disk::{Disk, OpenFault};
+use alter_disk::{Disk, OpenFault, Way};
+use alter_session::{OpenError, Session, Unopened};
 use std::alloc::Global;
 
-impl From<ReadFault> for Stop {
-    ghost use Rattle.alter_cli.specs.StopOf.{stop_of_read};
-    ghost use Rattle.std.specs.Prelude.{◌≡◌};
+/// The stop of a failure of the disk.
+pub fn stop_of_way(way: Way) -> Stop
+    ensures { result ≡ stop_of_way way }
+{
+    match way {
+        Way::Read => Stop::Unreadable,
+        Way::Write => Stop::Unwritten,
+    }
+}
 
-    ghost from_gives = { λ fault e. e ≡ stop_of_read fault };
-
-    fn from(fault: ReadFault) -> Stop {
-        match fault {
-            ReadFault::Memory => Stop::Memory,
-            ReadFault::Failed => Stop::Unreadable,
-        }
+/// The stop of a call whose file was not opened for this.
+fn stop_of_error(error: OpenError) -> Stop
+    ensures { result ≡ stop_of_error error }
+{
+    match error {
+        OpenError::Memory(_) => Stop::Memory,
+        OpenError::Failed(way) => stop_of_way(way),
+        OpenError::Super => Stop::Unserved(FileCode::SuperJournal),
+        OpenError::Short(page) => Stop::Unserved(FileCode::ShortJournal(page)),
+        OpenError::Journal => Stop::Unserved(FileCode::JournalTooLarge),
+        OpenError::Refused(refusal) => Stop::Unserved(FileCode::Database(refusal)),
+        OpenError::Unbuilt => Stop::Unserved(FileCode::Unbuilt),
     }
 }
 
 /// Opens the disk.
-fn open<D: Disk>(disk: &mut D, name: &str) -> Result<(), ReadFault>
+fn open<D: Disk>(disk: &mut D, name: &str) -> Result<(), Stop>
     requires first { D.called disk.old ≡ false }
     requires name { IfSome (D.label disk.old) (λ known. name.now ≡ known) }
-    ensures failed { IsErrOf result ReadFault.Failed → ReadFailed D.Disk disk.old disk.new }
-    ensures reads { OnlyOpens D.Disk disk.old disk.new }
+    ensures opens { OpensQuietly D.Disk disk.old disk.new }
+    ensures stop { IfErr result (IsUnopened (ReadFailed D.Disk disk.old disk.new)) }
 {
     match disk.open(name) {
         Ok(()) => Ok(()),
-        Err(OpenFault::Memory(_)) => Err(ReadFault::Memory),
-        Err(OpenFault::Failed) => Err(ReadFault::Failed),
+        Err(OpenFault::Memory(_)) => Err(Stop::Memory),
+        Err(OpenFault::Failed) => Err(Stop::Unreadable),
     }
 }
 
-/// Opens the file and reads it.
-pub fn open_form<D: Disk>(alloc: Global, disk: &mut D, name: &str) -> Result<Form, Stop>
-    requires first { D.called disk.old ≡ false }
-    requires name { IfSome (D.label disk.old) (λ known. name.now ≡ known) }
-    ensures ready { IfOk result IsReady }
-    ensures found { IfOk result (λ form. IfTold (D.files disk.old) (λ files. AreOfForm files form)) }
-    ensures stop { IfErr result (NoForm first_rules (ReadFailed D.Disk disk.old disk.new) (D.files disk.old)) }
-    ensures reads { OnlyOpens D.Disk disk.old disk.new }
+/// Opens the file and recovers it. The disk is handed back where that fails.
+pub fn open_session<D: Disk>(
+    alloc: Global,
+    mut disk: D,
+    name: &str,
+) -> Result<Session<D>, Halted<D>>
+    requires first { D.called disk ≡ false }
+    requires name { IfSome (D.label disk) (λ known. name.now ≡ known) }
+    ensures ready { IfOk result (IsReady D.Disk) }
+    ensures opened { IfOk result (λ session. IfTold (D.files disk) (OpensOf first_rules (λ image. Holds D.Disk image session))) }
+    ensures stop { IfErr result (λ halted. NoSession first_rules (ReadFailed D.Disk disk halted.disk) (WriteFailed D.Disk disk halted.disk)
+        (left_on D.Disk disk) (left_on D.Disk halted.disk) halted.stop) }
+    ensures stops { IfTold (D.files disk) (λ files. Leaves D.Disk disk (disk_open result) (λ c. standing c ≡ standing files)) }
+    ensures unwritten { IfTold (D.files disk) (λ files. recovered files ≡ files → D.files (disk_open result) ≡ Some files) }
+    ensures stays { StaysOpen D.Disk disk (disk_open result) }
 {
-    open(disk, name)?;
-    let Some(first) = read_first(alloc, disk)? else {
-        return Err(Stop::Unserved);
-    };
-    match form_of(alloc, disk, first)? {
-        Some(form) => Ok(form),
-        None => Err(Stop::Unserved),
+    if let Err(stop) = open(&mut disk, name) {
+        return Err(Halted { disk, stop });
+    }
+    match Session::open(alloc, disk) {
+        Ok(session) => Ok(session),
+        Err(Unopened { disk, cause }) => Err(Halted {
+            disk,
+            stop: stop_of_error(cause),
+        }),
     }
 }

@@ -1,18 +1,19 @@
 //! A whole call.
-ghost use Rattle.std.specs.Prelude.{◌≡◌, ◌≢◌, ◌⊎◌, ◌≤◌, map, IfSome, IfErr, OnOk, IsErrAnd, IsNone, IsSomeAnd, is_some, string_bytes, option_map, false};
+ghost use Rattle.std.specs.Prelude.{◌≡◌, ◌⊎◌, ◌≤◌, map, IfSome, IfErr, OnOk, IsErrAnd, IsNone, string_bytes, option_map, false};
+ghost use Rattle.std.specs.Prelude.{IsSomeAnd};
 ghost use Rattle.alter_disk.specs.Changes.{IfTold};
-ghost use Rattle.alter_disk.specs.Outside.{AnyRose, NoneFell, rises, span};
+ghost use Rattle.alter_disk.specs.Outside.{AnyRose, rises, span};
 ghost use Rattle.alter_disk.specs.Uses.{SinkFailed};
-ghost use Rattle.alter_cli.specs.Causes.{IsFrontTaken};
-ghost use Rattle.alter_cli.specs.Ending.{EndsByFile, EndsByRun, EndsByScript, EndsComplete, EndsMisused, EndsPerformed, EndsPrinted, IfNamed, IfNameless, Keeps, WhereSinkTells};
-ghost use Rattle.alter_cli.specs.Opens.{first_rules};
+ghost use Rattle.alter_cli.specs.Ending.{EndsByFile, EndsByRun, EndsByScript, EndsComplete, EndsMisused, EndsPerformed, EndsPrinted, EndsStopped, EndsUnwritten, IfNamed, IfNameless, Keeps, WhereSinkTells};
+ghost use Rattle.alter_cli.specs.First.{first_rules};
 ghost use Rattle.alter_cli.specs.Outcome.{file_of};
 ghost use Rattle.alter_cli.specs.Stops.{CanRunTold, GaveLines, IsEnd, IsLast, RunsSo, StopsBy, stop_status};
 
-use crate::opening::open_form;
-use crate::run::run_commands;
+use crate::halted::Halted;
+use crate::last_line::print_last;
+use crate::opening::open_session;
+use crate::run::{Ran, run_commands};
 use crate::script_text::read_commands;
-use crate::sink::print;
 use crate::status::Status;
 use crate::stop::Stop;
 use alter_disk::{Disk, Sink, Source};
@@ -35,35 +36,41 @@ fn file_name(words: &[String]) -> Option<&str>
     }
 }
 
-/// Reads the script, opens the file, and runs the commands. True says that all of them are done.
+/// Reads the script, opens the file, and runs the commands.
 fn perform<D: Disk, S: Source, K: Sink>(
     alloc: Global,
     name: &str,
-    disk: &mut D,
+    disk: D,
     script: &mut S,
     out: &mut K,
-) -> Result<bool, Stop>
-    requires fresh { D.called disk.old ≡ false }
-    requires label { IfSome (D.label disk.old) (λ known. name.now ≡ known) }
-    ensures told { RunsSo first_rules (span S.Source D.Disk K.Sink (script.old, disk.old, out.old) (script.new, disk.new, out.new)) result }
-    ensures printed { WhereSinkTells (K.written out.old) (K.written out.new) (λ given now. GaveLines (SinkFailed K.Sink out.old out.new) given now result) }
-    ensures able { OnOk result (CanRunTold first_rules (S.left script.old) (D.files disk.old)) }
-    ensures cause { IfErr result (StopsBy first_rules (span S.Source D.Disk K.Sink (script.old, disk.old, out.old) (script.new, disk.new, out.new))) }
-    ensures untouched { IsErrAnd result (λ stop. stop_status stop ≡ Status.Script) → disk.new ≡ disk.old }
-    ensures label { D.label disk.new ≡ D.label disk.old }
-    ensures telling { is_some (D.files disk.new) ≡ is_some (D.files disk.old) }
-    ensures taken { IfTold (S.left script.old) (λ text. IsSomeAnd (S.left script.new) (IsFrontTaken text)) }
-    ensures later { NoneFell (span S.Source D.Disk K.Sink (script.old, disk.old, out.old) (script.new, disk.new, out.new)) }
+) -> Ran<D>
+    requires fresh { D.called disk ≡ false }
+    requires label { IfSome (D.label disk) (λ known. name.now ≡ known) }
+    ensures told { RunsSo first_rules D.Disk disk result.disk (span S.Source D.Disk K.Sink (script.old, disk, out.old) (script.new, result.disk, out.new)) result.result }
+    ensures printed { WhereSinkTells (K.written out.old) (K.written out.new) (λ given now. GaveLines (SinkFailed K.Sink out.old out.new) given now result.result) }
+    ensures able { OnOk result.result (CanRunTold first_rules (S.left script.old) (D.files disk)) }
+    ensures cause { IfErr result.result (StopsBy first_rules (span S.Source D.Disk K.Sink (script.old, disk, out.old) (script.new, result.disk, out.new))) }
+    ensures untouched { IsErrAnd result.result (λ stop. stop_status stop ≡ Status.Script) → result.disk ≡ disk }
+    ensures stops { EndsStopped first_rules D.Disk disk result.disk (span S.Source D.Disk K.Sink (script.old, disk, out.old) (script.new, result.disk, out.new)) }
+    ensures unwritten { EndsUnwritten first_rules D.Disk disk result.disk }
+    ensures kept { Keeps (span S.Source D.Disk K.Sink (script.old, disk, out.old) (script.new, result.disk, out.new)) }
 {
     let commands = match read_commands(alloc, script) {
         Ok(commands) => commands,
-        Err(stop) => return Err(stop),
+        Err(stop) => {
+            return Ran {
+                disk,
+                result: Err(stop),
+            };
+        }
     };
-    let form = match open_form(alloc, disk, name) {
-        Ok(form) => form,
-        Err(stop) => return Err(stop),
-    };
-    run_commands(alloc, disk, form, commands.as_slice(), out)
+    match open_session(alloc, disk, name) {
+        Ok(session) => run_commands(alloc, session, commands.as_slice(), out),
+        Err(Halted { disk, stop }) => Ran {
+            disk,
+            result: Err(stop),
+        },
+    }
 }
 
 /// Prints the last line of a call that stopped, and gives its status.
@@ -72,7 +79,7 @@ fn stopped<K: Sink>(stop: &Stop, out: &mut K) -> Status
     ensures told { IfTold (K.written out.old) (λ given. IsSomeAnd (K.written out.new) (IsLast (SinkFailed K.Sink out.old out.new) stop.now result given)) }
     ensures later { K.faults out.old ≤ K.faults out.new }
 {
-    match print(out, stop.line().as_bytes()) {
+    match print_last(out, stop) {
         Ok(()) => stop.status(),
         Err(_) => Status::Fault,
     }
@@ -96,7 +103,7 @@ fn finish<K: Sink>(ran: Result<bool, Stop>, out: &mut K) -> Status
 pub fn sqlalter<D: Disk, S: Source, K: Sink>(
     alloc: Global,
     words: &[String],
-    mut disk: D,
+    disk: D,
     script: &mut S,
     out: &mut K,
 ) -> Ended<D>
@@ -104,10 +111,15 @@ pub fn sqlalter<D: Disk, S: Source, K: Sink>(
     requires label { IfSome (file_of (map string_bytes words.now)) (λ name. IfSome (D.label disk) (λ known. name ≡ known)) }
 
     // Of a call with a file's name: the lines, the status and both files; what can be run is run whole.
-    ensures performed { IfNamed (map string_bytes words.now) (EndsPerformed first_rules
+    ensures performed { IfNamed (map string_bytes words.now) (EndsPerformed first_rules D.Disk disk result.disk
         (span S.Source D.Disk K.Sink (script.old, disk, out.old) (script.new, result.disk, out.new)) result.status) }
-    ensures complete { IfNamed (map string_bytes words.now) (EndsComplete first_rules
+    ensures complete { IfNamed (map string_bytes words.now) (EndsComplete first_rules D.Disk disk result.disk
         (span S.Source D.Disk K.Sink (script.old, disk, out.old) (script.new, result.disk, out.new)) result.status) }
+
+    // A stop at any moment of the call, and files that are refused.
+    ensures stops { IfNamed (map string_bytes words.now) (EndsStopped first_rules D.Disk disk result.disk
+        (span S.Source D.Disk K.Sink (script.old, disk, out.old) (script.new, result.disk, out.new))) }
+    ensures unwritten { IfNamed (map string_bytes words.now) (EndsUnwritten first_rules D.Disk disk result.disk) }
 
     // Each status comes exactly where it should, by the objects that it is about.
     ensures script { IfNamed (map string_bytes words.now) (EndsByScript first_rules
@@ -135,7 +147,10 @@ pub fn sqlalter<D: Disk, S: Source, K: Sink>(
         let status = stopped(&Stop::Misused, out);
         return Ended { status, disk };
     };
-    let ran = perform(alloc, name, &mut disk, script, out);
-    let status = finish(ran, out);
-    Ended { status, disk }
+    let ran = perform(alloc, name, disk, script, out);
+    let status = finish(ran.result, out);
+    Ended {
+        status,
+        disk: ran.disk,
+    }
 }

@@ -5,7 +5,7 @@ ghost use Rattle.alter_disk.specs.Changes.{IfTold};
 ghost use Rattle.alter_disk.specs.Uses.{SourceFailed};
 ghost use Rattle.plain_sql.specs.Script.{IsPlainCommand};
 ghost use Rattle.alter_cli.specs.Causes.{IsFrontTaken};
-ghost use Rattle.alter_cli.specs.Opens.{first_rules};
+ghost use Rattle.alter_cli.specs.First.{first_rules};
 ghost use Rattle.alter_cli.specs.Outcome.{IsServed};
 ghost use Rattle.alter_cli.specs.Stops.{NoScript};
 

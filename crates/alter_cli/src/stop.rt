@@ -1,6 +1,5 @@
 //! Why a call ends before all its commands are run.
-ghost use Rattle.std.specs.Prelude.{◌≡◌};
-
+use crate::file_code::FileCode;
 use crate::status::Status;
 use std::alloc::AllocError;
 
@@ -15,8 +14,8 @@ pub enum Stop {
     Unspelled,
     /// The script's source failed.
     Unread,
-    /// The file is none that is served.
-    Unserved,
+    /// The file is refused.
+    Unserved(FileCode),
     /// The disk failed at reading.
     Unreadable,
     /// The disk failed at writing.
@@ -38,6 +37,8 @@ impl From<AllocError> for Stop {
 }
 
 impl Stop {
+    ghost use Rattle.std.specs.Prelude.{◌≡◌, IfErr, IfOk};
+    ghost use Rattle.alter_cli.specs.Codes.{file_line};
     ghost use Rattle.alter_cli.specs.Stops.{stop_status, stop_line};
 
     /// The status of the call.
@@ -47,25 +48,26 @@ impl Stop {
         match self {
             Stop::Misused => Status::Usage,
             Stop::TooLong | Stop::Unspelled => Status::Script,
-            Stop::Unserved => Status::File,
+            Stop::Unserved(_) => Status::File,
             Stop::Memory => Status::Memory,
             Stop::Unread | Stop::Unreadable | Stop::Unwritten | Stop::Unprinted => Status::Fault,
         }
     }
 
-    /// The last line of the call. A sink that failed gets none.
-    pub fn line(&self) -> &'static str
-        ensures { result.now ≡ stop_line self.now }
+    /// The last line of the call, or the code whose line it is. A sink that failed gets none.
+    pub fn line(&self) -> Result<&'static str, FileCode>
+        ensures text { IfOk result (λ line. line.now ≡ stop_line self.now) }
+        ensures code { IfErr result (λ code. file_line code ≡ stop_line self.now) }
     {
         match self {
-            Stop::Misused => "usage: sqlalter FILE\n",
-            Stop::TooLong => "script 1048576 too-long\n",
-            Stop::Unspelled => "script 0 unbuilt\n",
-            Stop::Unread | Stop::Unreadable => "fault read\n",
-            Stop::Unserved => "file unbuilt\n",
-            Stop::Unwritten => "fault write\n",
-            Stop::Unprinted => "",
-            Stop::Memory => "memory\n",
+            Stop::Misused => Ok("usage: sqlalter FILE\n"),
+            Stop::TooLong => Ok("script 1048576 too-long\n"),
+            Stop::Unspelled => Ok("script 0 unbuilt\n"),
+            Stop::Unread | Stop::Unreadable => Ok("fault read\n"),
+            Stop::Unserved(code) => Err(*code),
+            Stop::Unwritten => Ok("fault write\n"),
+            Stop::Unprinted => Ok(""),
+            Stop::Memory => Ok("memory\n"),
         }
     }
 }

@@ -1,5 +1,6 @@
 //! A line of the input: a call, what it is given, and the tables that are wanted behind it.
 use crate::database::database;
+use crate::journal::journal;
 use std::alloc::{AllocError, Global};
 
 /// A case: `done|tables|script|after|options`. No field has a bar in it.
@@ -33,16 +34,21 @@ impl<'a> Case<'a> {
         })
     }
 
-    /// The number that stands behind this key.
-    pub fn option(&self, key: &str) -> Option<usize> {
+    /// What stands behind this key.
+    fn word(&self, key: &str) -> Option<&'a str> {
         for option in self.options.split(' ') {
-            if let Some((name, number)) = option.split_once('=') {
+            if let Some((name, word)) = option.split_once('=') {
                 if name == key {
-                    return number.parse::<usize>().ok();
+                    return Some(word);
                 }
             }
         }
         None
+    }
+
+    /// The number that stands behind this key.
+    pub fn option(&self, key: &str) -> Option<usize> {
+        self.word(key)?.parse::<usize>().ok()
     }
 
     /// The script, so often as `times` says.
@@ -70,11 +76,33 @@ impl<'a> Case<'a> {
         Ok(text)
     }
 
-    /// The database before the call: with `cut`, so many bytes of it, and with `at`, the byte `put` there.
+    /// The bytes of a page.
+    fn page(&self) -> usize {
+        self.option("page").unwrap_or(4096)
+    }
+
+    /// The journal before the call: with `journal`, one byte, and with `log`, the one of this kind beside the tables.
+    pub fn journal(&self, alloc: Global) -> Result<Vec<u8>, AllocError> {
+        if self.option("journal") == Some(1) {
+            return Vec::from_slice(alloc, b"j");
+        }
+        let tables = self.tables(alloc)?;
+        let db = database(alloc, self.page(), 0, tables.as_str())?;
+        journal(
+            alloc,
+            self.word("log").unwrap_or(""),
+            db.as_slice(),
+            self.page(),
+        )
+    }
+
+    /// The database before the call: with `more`, so many zeros behind it, with `cut`, so many bytes of it, and with
+    /// `at`, the byte `put` there.
     pub fn database(&self, alloc: Global) -> Result<Vec<u8>, AllocError> {
         let tables = self.tables(alloc)?;
-        let page = self.option("page").unwrap_or(4096);
-        let mut bytes = database(alloc, page, 0, tables.as_str())?;
+        let mut bytes = database(alloc, self.page(), 0, tables.as_str())?;
+        let length = bytes.len().saturating_add(self.option("more").unwrap_or(0));
+        bytes.resize(length, 0)?;
         if let Some(length) = self.option("cut") {
             bytes.truncate(length);
         }
@@ -88,7 +116,7 @@ impl<'a> Case<'a> {
     pub fn wanted(&self, alloc: Global) -> Result<Vec<u8>, AllocError> {
         database(
             alloc,
-            4096,
+            self.page(),
             self.done.parse::<u8>().unwrap_or(0),
             self.after,
         )

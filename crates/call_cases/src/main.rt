@@ -4,8 +4,9 @@
 mod call;
 mod case;
 mod database;
+mod journal;
 
-use crate::call::{answer, answer_in_files, misuses};
+use crate::call::{answer, answer_in_files, answer_stopped, misuses};
 use crate::case::Case;
 use std::io;
 
@@ -13,6 +14,7 @@ use std::io;
 fn answer_line(rt: &HostRuntime, line: &str) -> io::Result<String> {
     match Case::read(line) {
         Some(case) if case.option("files") == Some(1) => answer_in_files(rt, &case),
+        Some(case) if case.option("stopped") == Some(1) => Ok(answer_stopped(rt.alloc(), &case)?),
         Some(case) => Ok(answer(rt.alloc(), &case)?),
         None => Ok(misuses(rt.alloc())?),
     }

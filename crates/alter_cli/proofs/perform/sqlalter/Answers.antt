@@ -1,8 +1,9 @@
 use Rattle.std.proofs.Common.{inl, inr, map, string_bytes, arith}
 use Rattle.alter_disk.specs.Faults.{Rose}
 use Rattle.alter_disk.specs.Outside.{Span, rises, span}
-use Rattle.alter_cli.specs.Ending.{EndsByFile, EndsByRun, EndsByScript, EndsComplete, EndsMisused, EndsPerformed}
-use Rattle.alter_cli.specs.Opens.{first_rules}
+use Rattle.alter_cli.specs.Ending.{EndsByFile, EndsByRun, EndsByScript, EndsComplete, EndsMisused, EndsPerformed, EndsStopped, EndsUnwritten}
+use Rattle.alter_cli.specs.First.{first_rules}
+use Rattle.alter_cli.specs.Left.{left_on}
 use Rattle.alter_cli.specs.Outcome.{file_of}
 use Rattle.alter_cli.proofs.CauseLemmas.{completes_told}
 use Rattle.alter_cli.proofs.EndLemmas.{end_cause, end_file, end_performed, end_printed, end_run, end_script, end_script_stop, end_used}
@@ -28,7 +29,7 @@ returns-in_default-clause-printed g c =
 abbrev whole : (g : Over) → goal.After-finish-status g → Span
 whole g c =
     span g.S.Source g.D.Disk g.K.Sink (c.args.script.now, c.args.disk, c.args.out.now)
-    (c.perform-ran.new.script, c.perform-ran.new.disk, c.finish-status.new.out)
+    (c.perform-ran.new.script, c.perform-ran.result.disk, c.finish-status.new.out)
 
 -- the sink failed in the run
 abbrev Ran_sunk : (g : Over) → goal.After-finish-status g → Type 0
@@ -47,84 +48,95 @@ first g c rose =
 later : (g : Over) (c : goal.After-finish-status g) → End_sunk g c → (rises (whole g c)).sink
 later g c rose =
     rose_before (g.K.Sink.faults c.args.out.now) (g.K.Sink.faults c.perform-ran.new.out) (g.K.Sink.faults c.finish-status.new.out)
-    c.perform-ran.ensures.later.sink rose
+    c.perform-ran.ensures.kept.counts.sink rose
 
 -- the verdicts, the files and what was printed
-performed : (g : Over) (c : goal.After-finish-status g) → EndsPerformed first_rules (whole g c) c.finish-status.result
+performed : (g : Over) (c : goal.After-finish-status g) → EndsPerformed first_rules g.D.Disk c.args.disk c.perform-ran.result.disk (whole g c) c.finish-status.result
 performed g c =
-    end_performed first_rules (rises (whole g c)) (Ran_sunk g c) (End_sunk g c) (g.D.Disk.called c.perform-ran.new.disk) c.perform-ran.result
+    end_performed first_rules (rises (whole g c)) (Ran_sunk g c) (End_sunk g c) (g.D.Disk.called c.perform-ran.result.disk) c.perform-ran.result.result
     c.finish-status.result (g.S.Source.left c.args.script.now) (g.S.Source.left c.perform-ran.new.script) (g.D.Disk.files c.args.disk)
-    (g.D.Disk.files c.perform-ran.new.disk) (g.K.Sink.written c.args.out.now) (g.K.Sink.written c.perform-ran.new.out) (g.K.Sink.written c.finish-status.new.out)
+    (g.D.Disk.may_leave c.args.disk) (left_on g.D.Disk c.perform-ran.result.disk) (g.K.Sink.written c.args.out.now) (g.K.Sink.written c.perform-ran.new.out) (g.K.Sink.written c.finish-status.new.out)
     (first g c) (later g c) c.perform-ran.ensures.told c.finish-status.ensures.ended
 
 pub returns-clause-performed : goal.returns-clause-performed
 returns-clause-performed g c =
-    if_some (file_of (map string_bytes c.args.words.now)) (EndsPerformed first_rules (whole g c) c.finish-status.result) (performed g c)
+    if_some (file_of (map string_bytes c.args.words.now)) (EndsPerformed first_rules g.D.Disk c.args.disk c.perform-ran.result.disk (whole g c) c.finish-status.result)
+    (performed g c)
 
 pub returns-clause-complete : goal.returns-clause-complete
 returns-clause-complete g c =
-    if_some (file_of (map string_bytes c.args.words.now)) (EndsComplete first_rules (whole g c) c.finish-status.result)
-    (completes_told first_rules (rises (whole g c)) (g.D.Disk.called c.perform-ran.new.disk) c.finish-status.result (g.S.Source.left c.args.script.now)
-    (g.S.Source.left c.perform-ran.new.script) (g.D.Disk.files c.args.disk) (g.D.Disk.files c.perform-ran.new.disk) (g.K.Sink.written c.args.out.now)
-    (g.K.Sink.written c.finish-status.new.out) (performed g c))
+    if_some (file_of (map string_bytes c.args.words.now)) (EndsComplete first_rules g.D.Disk c.args.disk c.perform-ran.result.disk (whole g c) c.finish-status.result)
+    (completes_told first_rules (rises (whole g c)) (g.D.Disk.called c.perform-ran.result.disk) c.finish-status.result (g.S.Source.left c.args.script.now)
+    (g.S.Source.left c.perform-ran.new.script) (g.D.Disk.files c.args.disk) (g.D.Disk.may_leave c.args.disk) (left_on g.D.Disk c.perform-ran.result.disk)
+    (g.K.Sink.written c.args.out.now) (g.K.Sink.written c.finish-status.new.out) (performed g c))
+
+pub returns-clause-stops : goal.returns-clause-stops
+returns-clause-stops g c =
+    if_some (file_of (map string_bytes c.args.words.now)) (EndsStopped first_rules g.D.Disk c.args.disk c.perform-ran.result.disk (whole g c)) c.perform-ran.ensures.stops
+
+pub returns-clause-unwritten : goal.returns-clause-unwritten
+returns-clause-unwritten g c =
+    if_some (file_of (map string_bytes c.args.words.now)) (EndsUnwritten first_rules g.D.Disk c.args.disk c.perform-ran.result.disk) c.perform-ran.ensures.unwritten
 
 pub returns-clause-script : goal.returns-clause-script
 returns-clause-script g c =
     if_some (file_of (map string_bytes c.args.words.now)) (EndsByScript first_rules (whole g c) c.finish-status.result)
-    (end_script first_rules (rises (whole g c)) (Ran_sunk g c) (End_sunk g c) c.perform-ran.result c.finish-status.result
+    (end_script first_rules (rises (whole g c)) (Ran_sunk g c) (End_sunk g c) c.perform-ran.result.result c.finish-status.result
     (g.S.Source.left c.args.script.now) (g.D.Disk.files c.args.disk) (g.K.Sink.written c.perform-ran.new.out) (g.K.Sink.written c.finish-status.new.out)
     (first g c) (later g c) c.perform-ran.ensures.cause c.perform-ran.ensures.able c.finish-status.ensures.ended)
 
 pub returns-clause-file : goal.returns-clause-file
 returns-clause-file g c =
     if_some (file_of (map string_bytes c.args.words.now)) (EndsByFile first_rules (whole g c) c.finish-status.result)
-    (end_file first_rules (rises (whole g c)) (Ran_sunk g c) (End_sunk g c) c.perform-ran.result c.finish-status.result
+    (end_file first_rules (rises (whole g c)) (Ran_sunk g c) (End_sunk g c) c.perform-ran.result.result c.finish-status.result
     (g.S.Source.left c.args.script.now) (g.D.Disk.files c.args.disk) (g.K.Sink.written c.perform-ran.new.out) (g.K.Sink.written c.finish-status.new.out)
     (first g c) (later g c) c.perform-ran.ensures.cause c.perform-ran.ensures.able c.finish-status.ensures.ended)
 
 pub returns-clause-run : goal.returns-clause-run
 returns-clause-run g c =
     if_some (file_of (map string_bytes c.args.words.now)) (EndsByRun first_rules (whole g c) c.finish-status.result)
-    (end_run first_rules (rises (whole g c)) (Ran_sunk g c) (End_sunk g c) c.perform-ran.result c.finish-status.result
+    (end_run first_rules (rises (whole g c)) (Ran_sunk g c) (End_sunk g c) c.perform-ran.result.result c.finish-status.result
     (g.S.Source.left c.args.script.now) (g.D.Disk.files c.args.disk) (g.K.Sink.written c.perform-ran.new.out) (g.K.Sink.written c.finish-status.new.out)
     (first g c) (later g c) c.perform-ran.ensures.cause c.perform-ran.ensures.able c.finish-status.ensures.ended)
 
 pub returns-clause-usage : goal.returns-clause-usage
 returns-clause-usage g c is =
-    absurd (end_used first_rules (rises (whole g c)) (Ran_sunk g c) (End_sunk g c) c.perform-ran.result c.finish-status.result
+    absurd (end_used first_rules (rises (whole g c)) (Ran_sunk g c) (End_sunk g c) c.perform-ran.result.result c.finish-status.result
     (g.S.Source.left c.args.script.now) (g.D.Disk.files c.args.disk) (g.K.Sink.written c.perform-ran.new.out) (g.K.Sink.written c.finish-status.new.out)
     c.perform-ran.ensures.cause c.finish-status.ensures.ended is)
 
 pub returns-clause-cause : goal.returns-clause-cause
 returns-clause-cause g c =
-    end_cause first_rules (rises (whole g c)) (Ran_sunk g c) (End_sunk g c) c.perform-ran.result c.finish-status.result
+    end_cause first_rules (rises (whole g c)) (Ran_sunk g c) (End_sunk g c) c.perform-ran.result.result c.finish-status.result
     (g.S.Source.left c.args.script.now) (g.D.Disk.files c.args.disk) (g.K.Sink.written c.perform-ran.new.out) (g.K.Sink.written c.finish-status.new.out)
     (first g c) (later g c) c.perform-ran.ensures.cause c.finish-status.ensures.ended
 
 pub returns-clause-printed : goal.returns-clause-printed
 returns-clause-printed g c =
-    end_printed first_rules (rises (whole g c)) (Ran_sunk g c) (End_sunk g c) c.perform-ran.result c.finish-status.result
+    end_printed first_rules (rises (whole g c)) (Ran_sunk g c) (End_sunk g c) c.perform-ran.result.result c.finish-status.result
     (g.S.Source.left c.args.script.now) (g.D.Disk.files c.args.disk) (g.K.Sink.written c.args.out.now) (g.K.Sink.written c.perform-ran.new.out)
     (g.K.Sink.written c.finish-status.new.out) (first g c) (later g c) c.perform-ran.ensures.cause c.perform-ran.ensures.printed c.finish-status.ensures.ended
 
 pub returns-clause-untouched : goal.returns-clause-untouched
 returns-clause-untouched g c (inl is) =
-    c.perform-ran.ensures.untouched (end_script_stop (End_sunk g c) c.perform-ran.result c.finish-status.result
+    c.perform-ran.ensures.untouched (end_script_stop (End_sunk g c) c.perform-ran.result.result c.finish-status.result
     (g.K.Sink.written c.perform-ran.new.out) (g.K.Sink.written c.finish-status.new.out) c.finish-status.ensures.ended is)
 returns-clause-untouched g c (inr is) =
-    absurd (end_used first_rules (rises (whole g c)) (Ran_sunk g c) (End_sunk g c) c.perform-ran.result c.finish-status.result
+    absurd (end_used first_rules (rises (whole g c)) (Ran_sunk g c) (End_sunk g c) c.perform-ran.result.result c.finish-status.result
     (g.S.Source.left c.args.script.now) (g.D.Disk.files c.args.disk) (g.K.Sink.written c.perform-ran.new.out) (g.K.Sink.written c.finish-status.new.out)
     c.perform-ran.ensures.cause c.finish-status.ensures.ended is)
 
 pub returns-clause-kept : goal.returns-clause-kept
-returns-clause-kept g c = record {
-  label = c.perform-ran.ensures.label;
-  telling = c.perform-ran.ensures.telling;
-  taken = c.perform-ran.ensures.taken;
-  counts = record {
-    source = c.perform-ran.ensures.later.source;
-    reading = c.perform-ran.ensures.later.reading;
-    writing = c.perform-ran.ensures.later.writing;
-    sink = omega (arith, c.perform-ran.ensures.later.sink, c.finish-status.ensures.later);
-  };
-}
+returns-clause-kept g c =
+    let kept = c.perform-ran.ensures.kept in
+    record {
+      label = kept.label;
+      telling = kept.telling;
+      taken = kept.taken;
+      counts = record {
+        source = kept.counts.source;
+        reading = kept.counts.reading;
+        writing = kept.counts.writing;
+        sink = omega (arith, kept.counts.sink, c.finish-status.ensures.later);
+      };
+    }

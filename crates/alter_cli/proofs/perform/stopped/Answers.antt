@@ -1,8 +1,7 @@
-use Rattle.std.proofs.Common.{List, ℕ, ◌++◌, ◌≡◌, ◌∙◌, sym, option_map, subst, IsSomeAnd}
+use Rattle.std.proofs.Common.{sym, subst, IsSomeAnd}
 use Rattle.alter_disk.specs.Faults.{Rose}
 use Rattle.alter_disk.specs.Changes.{IfTold}
 use Rattle.alter_cli.specs.declared.status.Status.{Status}
-use Rattle.alter_cli.specs.Given.{WroteFront}
 use Rattle.alter_cli.specs.Stops.{IsLast}
 use Rattle.alter_cli.proofs.FinishLemmas.{last_ok, last_err}
 use Rattle.alter_cli.proofs.perform.stopped.Goals as goal
@@ -10,15 +9,12 @@ use Rattle.alter_cli.proofs.perform.stopped.Goals as goal
 pub returns-in-Ok-clause-told : goal.returns-in-Ok-clause-told
 returns-in-Ok-clause-told g c =
     let had = g.K.Sink.written c.args.out.now in
-    let now = g.K.Sink.written c.print.new.out in
-    let sunk = Rose (g.K.Sink.faults c.args.out.now) (g.K.Sink.faults c.print.new.out) in
+    let now = g.K.Sink.written c.print_last.new.out in
+    let sunk = Rose (g.K.Sink.faults c.args.out.now) (g.K.Sink.faults c.print_last.new.out) in
     subst (λ (s : Status). IfTold had (λ given. IsSomeAnd now (IsLast sunk c.args.stop.now s given))) (sym c.status.ensures)
-    (last_ok sunk c.args.stop.now had now
-    (subst (λ (l : List ℕ). now ≡ option_map (λ w. w ++ l) had) (c.as_bytes.ensures.value ∙ c.line.ensures) c.in-Ok.ensures.written))
+    (last_ok sunk c.args.stop.now had now c.in-Ok.ensures.written)
 
 pub returns-in-Err-clause-told : goal.returns-in-Err-clause-told
 returns-in-Err-clause-told g c =
-    let had = g.K.Sink.written c.args.out.now in
-    let now = g.K.Sink.written c.print.new.out in
-    last_err (Rose (g.K.Sink.faults c.args.out.now) (g.K.Sink.faults c.print.new.out)) c.args.stop.now had now c.in-Err.ensures.cause.failed
-    (subst (λ (l : List ℕ). IfTold had (λ w. WroteFront w l now)) (c.as_bytes.ensures.value ∙ c.line.ensures) c.in-Err.ensures.front)
+    last_err (Rose (g.K.Sink.faults c.args.out.now) (g.K.Sink.faults c.print_last.new.out)) c.args.stop.now (g.K.Sink.written c.args.out.now)
+    (g.K.Sink.written c.print_last.new.out) c.in-Err.ensures.cause.failed c.in-Err.ensures.front

@@ -1,21 +1,25 @@
 use Rattle.std.proofs.Common.{◌≡◌, ◌≤◌, take}
-use Rattle.alter_disk.specs.Uses.{OnlyWrites}
-use Rattle.alter_cli.specs.Carried.{OfForm}
+use Rattle.alter_disk.specs.Moments.{Leaves, Stays}
+use Rattle.plain_schema.specs.Image.{Image}
+use Rattle.alter_session.specs.Session.{Holds, IsReady, disk_of}
 use Rattle.alter_cli.specs.Ending.{WhereSinkTells}
-use Rattle.alter_cli.specs.Opens.{first_rules}
-use Rattle.alter_cli.specs.Served.{IsFormOf, IsReady}
+use Rattle.alter_cli.specs.First.{first_rules}
+use Rattle.alter_cli.specs.Stops.{IsReachedBy}
 use Rattle.alter_cli.proofs.Printed.{GaveSo}
 use Rattle.alter_cli.proofs.Reached.{Reached}
 use Rattle.alter_cli.proofs.run.run_commands.Given as goal
 
--- the commands so far were run, and the form is the one behind them
+-- the commands so far were run on the image of the session that there was, their lines are printed, and the session holds the
+-- image behind them
 abbrev pub invariant-loop-command : goal.invariant-loop-command
 invariant-loop-command g l = record {
-  reached : OfForm (g.D.Disk.files l.fn.disk) (g.K.Sink.written l.fn.out) l.fn.form
-      (λ image given. Reached first_rules (λ i. IsFormOf i l.form) image (take l.command-index l.commands) given (g.D.Disk.files l.disk) (g.K.Sink.written l.out) l.all_done);
-  ready : IsReady l.form;
+  reached : (image : Image) → Holds g.D.Disk image l.fn.session
+      → Reached first_rules (λ i. Holds g.D.Disk i l.session) image (take l.command-index l.commands) (g.K.Sink.written l.fn.out) (g.K.Sink.written l.out) l.all_done;
+  stops : (image : Image) → Holds g.D.Disk image l.fn.session
+      → Leaves g.D.Disk (disk_of l.fn.session) (disk_of l.session) (IsReachedBy first_rules image l.commands);
+  ready : IsReady g.D.Disk l.session;
   number : l.number ≡ l.command-index;
   printed : WhereSinkTells (g.K.Sink.written l.fn.out) (g.K.Sink.written l.out) (GaveSo l.command-index l.all_done);
-  writes : OnlyWrites g.D.Disk l.fn.disk l.disk;
+  stays : Stays g.D.Disk (disk_of l.fn.session) (disk_of l.session);
   sink : g.K.Sink.faults l.fn.out ≤ g.K.Sink.faults l.out;
 }
