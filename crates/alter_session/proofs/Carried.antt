@@ -2,6 +2,7 @@
 use Rattle.std.proofs.Common.{◌≡◌, ◌⊎◌, inl, inr, ℕ, ◌+◌, ◌*◌, ◌≤◌, ◌==◌, if◌then◌else◌, List, ◌∷◌, length, take, drop, refl, sym, ap, ◌∙◌, subst, arith}
 use Rattle.alter_bytes.proofs.Fields.{same_number}
 use Rattle.alter_disk.specs.declared.disk.Disk.{Ghosts}
+use Rattle.alter_disk.specs.declared.way.Way.{Way}
 use Rattle.alter_disk.specs.declared.way.Way.TheVariants.{Read, Write}
 use Rattle.alter_disk.specs.Files.{Files}
 use Rattle.alter_disk.specs.Moments.{Leaves, Stays}
@@ -20,6 +21,7 @@ use Rattle.plain_schema.specs.declared.plan.Change.{Change}
 use Rattle.plain_schema.specs.declared.plan.Plan.{Plan}
 use Rattle.plain_schema.specs.declared.plan.Plan.TheVariants.{Refused, Changed}
 use Rattle.plain_schema.specs.declared.verdict.Verdict.{Verdict}
+use Rattle.plain_schema.specs.declared.verdict.Verdict.TheVariants as verdicts
 use Rattle.plain_schema.specs.FirstForm.{first_page, header_of}
 use Rattle.plain_schema.specs.Header.{committed}
 use Rattle.plain_schema.specs.Image.{Image}
@@ -31,7 +33,8 @@ use Rattle.plain_schema.proofs.CommittedLemmas.{current-committed, page_size-com
 use Rattle.plain_schema.proofs.ReadyLemmas.{stays_ready}
 use Rattle.plain_schema.proofs.Stepped.{IsStepped, stepped}
 use Rattle.alter_session.specs.declared.session.Session.{Session}
-use Rattle.alter_session.specs.Applying.{IsAnswered, IsUndone, MayHave, PlanFits, PlanGives, carried}
+use Rattle.alter_session.specs.declared.answer.Outcome.TheVariants.{Failed}
+use Rattle.alter_session.specs.Applying.{Applied, IsAnswered, IsUndone, MayHave, PlanFits, PlanGives, carried}
 use Rattle.alter_session.specs.declared.fault.Fault.{Fault}
 use Rattle.alter_session.specs.declared.fault.Fault.TheVariants as faults
 use Rattle.alter_session.specs.Committing.{GivesSizes, IsBefore, IsClean, KeepsSizes, with_first}
@@ -148,8 +151,17 @@ module _ {D : Type 0} (disk : Ghosts D) (old : Session D) (command : Command) (p
     count = sizes.before ∙ ready.count ∙ ap (λ (s : FileShape). s.count) (sym sizes.shape);
   }
 
--- a command that was not carried out
-pub undone : {D : Type 0} (disk : Ghosts D) (old : Session D) (pages : Pages D) (fault : Fault) → IsBefore disk old.pages pages fault → IsUndone disk old (record { pages = pages; form = old.form }) fault
-undone disk old pages (faults.Memory error) before = (before.0, λ image holds. record { clean = before.1 image holds.clean; of = holds.of })
-undone disk old pages (faults.Failed Read) before = (before.0, λ image holds. record { clean = before.1 image holds.clean; of = holds.of })
-undone disk old pages (faults.Failed Write) before = tt
+  -- a command that was not carried out
+  pub undone : (fault : Fault) → verdict_of plan ≡ verdicts.Done → IsBefore disk old.pages pages fault → IsUndone disk command old (record { pages = pages; form = old.form }) fault
+  undone (faults.Memory error) done before = (before.0, λ image holds. record { clean = before.1 image holds.clean; of = holds.of })
+  undone (faults.Failed Read) done before = (before.0, λ image holds. record { clean = before.1 image holds.clean; of = holds.of })
+  undone (faults.Failed Write) done before = λ image holds. (
+    carried plan image,
+    subst (λ (v : Verdict). Step image command v (carried plan image)) done (planned_after image old.form command holds.of ready.ready plain plan is),
+  )
+
+-- a failure, by what is so of a command that was not carried out
+pub failed_applied : {D : Type 0} (disk : Ghosts D) (command : Command) (old new : Session D) (d : D) (way : Way) → IsUndone disk command old new (faults.Failed way)
+    → (image : Image) → sessions.Holds disk image old → Applied disk image command (Failed d way)
+failed_applied disk command old new d Read undone image holds = tt
+failed_applied disk command old new d Write undone image holds = undone image holds

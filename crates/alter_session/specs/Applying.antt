@@ -58,10 +58,15 @@ pub record IsAnswered {D : Type 0} (disk : Ghosts D) (image : Image) (command : 
   pub step : Step image command verdict last
   pub holds : Holds disk last session
 
--- before the first write the disk was only read, and the session has the image that it had
-abbrev pub IsUndone : {D : Type 0} → Ghosts D → Session D → Session D → Fault → Type 0
-IsUndone disk old new (faults.Failed Write) = Unit {0}
-IsUndone disk old new fault = ReadsQuietly disk (disk_of old) (disk_of new) × ((image : Image) → Holds disk image old → Holds disk image new)
+-- the command is done on this image
+abbrev pub IsDoneOn : Image → Command → Type 0
+IsDoneOn image command = (new : Image) × Step image command verdicts.Done new
+
+-- a call that writes fails only of a command that is done; before the first write the disk was only read, and the session
+-- has the image that it had
+abbrev pub IsUndone : {D : Type 0} → Ghosts D → Command → Session D → Session D → Fault → Type 0
+IsUndone disk command old new (faults.Failed Write) = (image : Image) → Holds disk image old → IsDoneOn image command
+IsUndone disk command old new fault = ReadsQuietly disk (disk_of old) (disk_of new) × ((image : Image) → Holds disk image old → Holds disk image new)
 
 module _ {D : Type 0} where
   -- the disk that the session owns, or that is handed back
@@ -70,11 +75,13 @@ module _ {D : Type 0} where
   disk_behind (Memory session) = disk_of session
   disk_behind (Failed d way) = d
 
-  -- the session has an image on which the command got its verdict; at want of memory it has the one that it had
+  -- the session has an image on which the command got its verdict; at want of memory it has the one that it had, and a call
+  -- that writes fails only of a command that is done
   abbrev pub Applied : Ghosts D → Image → Command → Outcome D → Type 0
   Applied disk image command (Done session answer) = IsAnswered disk image command answer.verdict session
   Applied disk image command (Memory session) = Holds disk image session
-  Applied disk image command (Failed d way) = Unit {0}
+  Applied disk image command (Failed d Read) = Unit {0}
+  Applied disk image command (Failed d Write) = IsDoneOn image command
 
   -- a session that is there can be used again
   abbrev pub StaysReady : Ghosts D → Outcome D → Type 0

@@ -3,6 +3,7 @@ ghost use Rattle.std.specs.Prelude.{◌≡◌, ◌⊎◌, true, IfErr, OnOk};
 ghost use Rattle.alter_disk.specs.Moments.{Leaves, Stays};
 ghost use Rattle.pager_core.specs.Pages.{IsPage, before_of, disk_of, shape_of};
 ghost use Rattle.pager_commit.specs.Opens.{Opens};
+ghost use Rattle.plain_schema.specs.declared.verdict.Verdict.TheVariants as verdicts;
 ghost use Rattle.plain_schema.specs.Image.{Image};
 ghost use Rattle.plain_schema.specs.Plan.{verdict_of};
 ghost use Rattle.alter_session.specs.Applying.{PlanFits, PlanGives, ReadsUnlessDone, carried};
@@ -27,6 +28,7 @@ pub(crate) fn carry_out<D: Disk>(
     requires count { before_of pages.old ≡ (shape_of pages.old).count }
     ensures done { OnOk result ((image : Image) → IsClean D.Disk image pages.old → PlanGives (shape_of pages.old) plan.now → IsClean D.Disk (carried plan.now image) pages.new) }
     ensures quiet { OnOk result (ReadsUnlessDone D.Disk (verdict_of plan.now) (disk_of pages.old) (disk_of pages.new)) }
+    ensures changes { IfErr result (λ _. verdict_of plan.now ≡ verdicts.Done) }
     ensures before { IfErr result (IsBefore D.Disk pages.old pages.new) }
     ensures stops { (image : Image) → IsClean D.Disk image pages.old → PlanGives (shape_of pages.old) plan.now
         → Leaves D.Disk (disk_of pages.old) (disk_of pages.new) (λ c. Opens image c ⊎ Opens (carried plan.now image) c) }

@@ -74,7 +74,7 @@ impl<D: Disk> Session<D> {
         requires plain { IsPlainCommand command.now }
         requires column { length command.now.column < 2 ^ 30 }
 
-        // The image is the one after the command, with its verdict and its line.
+        // The image is the one after the command, with its verdict and its line. Only a command that is done is written.
         ensures ready { StaysReady D.Disk result }
         ensures applied { (image : Image) → Holds D.Disk image self → Applied D.Disk image command.now result }
         ensures line { HasLine number result }
@@ -104,7 +104,7 @@ impl<D: Disk> Session<D> {
         ensures answer { IfOk result (λ answer. (image : Image) → Holds D.Disk image self.old → IsAnswered D.Disk image command.now answer.verdict self.new) }
         ensures line { IfOk result (IsAnswer number) }
         ensures quiet { IfOk result (λ answer. ReadsUnlessDone D.Disk answer.verdict (disk_of self.old) (disk_of self.new)) }
-        ensures undone { IfErr result (IsUndone D.Disk self.old self.new) }
+        ensures undone { IfErr result (IsUndone D.Disk command.now self.old self.new) }
         ensures stops { (image : Image) → Holds D.Disk image self.old → Leaves D.Disk (disk_of self.old) (disk_of self.new) (MayHave image command.now) }
         ensures stays { Stays D.Disk (disk_of self.old) (disk_of self.new) }
         ensures cause { IfErr result (FailsBy D.Disk (disk_of self.old) (disk_of self.new)) }

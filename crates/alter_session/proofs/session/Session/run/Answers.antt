@@ -5,7 +5,8 @@ use Rattle.alter_session.proofs.session.Session.run.Goals as goal
 pub returns-in_err-carry_out-clause-undone : goal.returns-in_err-carry_out-clause-undone
 returns-in_err-carry_out-clause-undone g c =
     let p = err_from_is_err_and c.from_residual-in_err-carry_out.result c.from_residual-in_err-carry_out.ensures.1 in
-    rw (p.1, p.2) (undone g.D.Disk c.args.self.now c.carry_out.new.pages _ c.in_err-carry_out.ensures.before)
+    rw (p.1, p.2) (undone g.D.Disk c.args.self.now c.args.command.now c.in_ok-plan.plan c.carry_out.new.pages c.requires.ready c.requires.plain c.in_ok-plan.ensures.plan _
+    c.in_err-carry_out.ensures.changes c.in_err-carry_out.ensures.before)
 
 pub returns-in_err-carry_out-clause-stops : goal.returns-in_err-carry_out-clause-stops
 returns-in_err-carry_out-clause-stops g c = λ image holds.
