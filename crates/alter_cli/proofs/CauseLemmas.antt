@@ -10,8 +10,8 @@ use Rattle.plain_schema.specs.declared.verdict.Verdict.{Verdict}
 use Rattle.alter_cli.specs.Causes.{CanRun, Completes, RanWhole}
 use Rattle.alter_cli.specs.Ending.{WhereTold}
 use Rattle.alter_cli.specs.Lines.{verdict_lines}
-use Rattle.alter_cli.specs.Left.{Each, Left}
-use Rattle.alter_cli.specs.Outcome.{IsRunStatus, Outcome, Performed, RanAll, run_status}
+use Rattle.alter_cli.specs.Left.{Left}
+use Rattle.alter_cli.specs.Outcome.{IsLeftBehind, IsRunStatus, Outcome, Performed, RanAll, run_status}
 use Rattle.plain_schema.specs.Verdicts.{is_done}
 use Rattle.alter_cli.specs.Rules.{Rules}
 use Rattle.alter_cli.proofs.StatusLemmas.{no_run}
@@ -19,7 +19,7 @@ use Rattle.alter_cli.proofs.StatusLemmas.{no_run}
 module _ {Image Command : Type 0} (rules : Rules Image Command) where
   -- every command was run, and no line came behind theirs
   ran_whole : (text left : List ℕ) (before : Files) (after : Left) (given now : List ℕ) (status : Status) (verdicts : List Verdict) (last : List ℕ) (image : Image) (b : Bool)
-      → RanAll rules text before verdicts image → Each after (rules.OpensTo image) → list_all is_done verdicts ≡ b → last ≡ [] → left ≡ [] → status ≡ run_status b
+      → RanAll rules text before verdicts image → IsLeftBehind rules before verdicts image after → list_all is_done verdicts ≡ b → last ≡ [] → left ≡ [] → status ≡ run_status b
       → now ≡ given ++ verdict_lines 1 verdicts ++ last → RanWhole rules text left before after given now status
   ran_whole text left before after given now status verdicts last image b ran are all none read ended told = record {
     verdicts = verdicts;

@@ -15,7 +15,7 @@ use Rattle.alter_session.specs.declared.open_error.OpenError.TheVariants as erro
 use Rattle.alter_session.specs.declared.session.Session.{Session}
 use Rattle.alter_session.specs.Opening.{HasCause, IsOpenedFrom, IsUnopened}
 use Rattle.alter_session.specs.Serves.{Refuses, Serves}
-use Rattle.alter_session.specs.Session.{Holds}
+use Rattle.alter_session.specs.Session.{Holds, disk_of}
 use Rattle.alter_cli.specs.declared.file_code.FileCode.{FileCode}
 use Rattle.alter_cli.specs.declared.file_code.FileCode.TheVariants.{SuperJournal, JournalTooLarge, ShortJournal, Database, Unbuilt}
 use Rattle.alter_cli.specs.First.{error_of, first_rules}
@@ -78,6 +78,13 @@ module _ {D : Type 0} (disk : Ghosts D) where
       if_told told (OpensOf first_rules (λ image. Holds disk image session))
       (λ f at. let o = is f (same ∙ at) in record { image = o.image; serves = o.serves; of = o.holds })
 
+  -- the session's files are those that a recovery leaves
+  pub rests_told : (told : Option Files) (opened : Option Files) (session : Session D) → opened ≡ told → is_some (disk.files (disk_of session)) ≡ is_some told
+      → ((f : Files) → opened ≡ Some f → IsOpenedFrom disk f session) → IfTold told (λ f. Each (left_on disk (disk_of session)) (λ c. c ≡ recovered f))
+  rests_told told opened session same telling is =
+      if_told told (λ f. Each (left_on disk (disk_of session)) (λ c. c ≡ recovered f))
+      (λ f at. rest_each (recovered f) (disk_of session) (telling ∙ ap is_some at) (is f (same ∙ at)).rests)
+
   module _ (counts_now : (d : D) (t : ℕ) (c : Files) → t ≤ disk.moment d → disk.may_leave d c → disk.left_since d t c)
       (only_now : (d : D) (c : Files) → disk.left_since d (disk.moment d) c → disk.may_leave d c) where
     -- what a crash may leave now it could have left before some calls, or it has what these leave
@@ -107,25 +114,29 @@ module _ {D : Type 0} (disk : Ghosts D) where
         if_told (disk.files old) (λ f. Leaves disk old new (λ c. standing c ≡ standing f))
         (λ f told. weaker disk old new Nothing (λ c. standing c ≡ standing f) (λ c none. absurd none) opens.stops)
 
-    -- a crash leaves the files as before
+    -- a crash leaves the files as before, and they read so where nothing is recovered
     pub left_alike : (old new : D) → IfTold (disk.files old) (λ f. Leaves disk old new (λ c. standing c ≡ standing f))
+        → IfTold (disk.files old) (λ f. recovered f ≡ f → disk.files new ≡ Some f)
         → IsLeftAlike first_rules (left_on disk old) (left_on disk new)
-    left_alike old new run = at (disk.files old) run
+    left_alike old new run cold = at (disk.files old) run cold
       where
-        at : (told : Option Files) → IfTold told (λ f. Leaves disk old new (λ c. standing c ≡ standing f))
-            → IfTold told (λ f. EachCrash (left_on disk new) (IsAsBefore first_rules f (disk.may_leave old)))
-        at None run = tt
-        at (Some f) run = λ c now. crash_since old new (λ c. standing c ≡ standing f) run c now
+        at : (told : Option Files) → IfTold told (λ f. Leaves disk old new (λ c. standing c ≡ standing f)) → IfTold told (λ f. recovered f ≡ f → disk.files new ≡ Some f)
+            → IfTold told (λ f. EachCrash (left_on disk new) (IsAsBefore first_rules f (disk.may_leave old)) × (recovered f ≡ f → disk.files new ≡ Some f))
+        at None run cold = tt
+        at (Some f) run cold = ((λ c now. crash_since old new (λ c. standing c ≡ standing f) run c now), cold)
 
     -- why there is no session behind an opened disk
     pub no_session_for : (old mid new : D) (cause : OpenError) → OpensQuietly disk old mid → is_some (disk.files new) ≡ is_some (disk.files mid)
         → ((f : Files) → disk.files mid ≡ Some f → IsUnopened disk f cause new)
         → ((f : Files) → disk.files mid ≡ Some f → Leaves disk mid new (λ c. standing c ≡ standing f)) → HasCause disk mid new cause
+        → ((f : Files) → disk.files mid ≡ Some f → recovered f ≡ f → disk.files new ≡ Some f)
         → NoSession first_rules (ReadFailed disk old new) (WriteFailed disk old new) (left_on disk old) (left_on disk new) (stop_of_error cause)
-    no_session_for old mid new cause opens telling un run why = at cause un why
+    no_session_for old mid new cause opens telling un run why kept = at cause un why
       where
         alike : IsLeftAlike first_rules (left_on disk old) (left_on disk new)
-        alike = left_alike old new (stops_open old mid new opens run)
+        alike =
+            left_alike old new (stops_open old mid new opens run)
+            (if_told (disk.files old) (λ f. recovered f ≡ f → disk.files new ≡ Some f) (λ f told. kept f (opens.only.files ∙ told)))
 
         told_new : (f : Files) → disk.files old ≡ Some f → is_some (disk.files new) ≡ true
         told_new f told = telling ∙ ap is_some (opens.only.files ∙ told)

@@ -12,10 +12,10 @@ use Rattle.alter_cli.specs.declared.status.Status.TheVariants as statuses
 use Rattle.alter_cli.specs.Ending.{WhereTold}
 use Rattle.alter_cli.specs.Left.{Each, EachCrash, Left}
 use Rattle.alter_cli.specs.Lines.{verdict_lines}
-use Rattle.alter_cli.specs.Outcome.{HasRun, IsBetween, IsServed, IsUntouched, Outcome, Ran, run_status}
+use Rattle.alter_cli.specs.Outcome.{HasRun, IfNoneDone, IsBetween, IsLeftBehind, IsNextDone, IsServed, IsUntouched, Outcome, Ran, run_status}
 use Rattle.alter_cli.specs.Rules.{Rules}
 use Rattle.alter_cli.specs.Run.{Run}
-use Rattle.alter_cli.specs.Stops.{IsNear, NoScript, NoSession, OpensOf, RanEach, RanSo, RanSome, StoppedAt, TornAt, UnprintedAt}
+use Rattle.alter_cli.specs.Stops.{IsDoneAt, IsNear, NoScript, NoSession, OpensOf, RanEach, RanSo, RanSome, StoppedAt, TornAt, UnprintedAt}
 use Rattle.plain_schema.specs.Verdicts.{is_done}
 
 -- nothing was printed
@@ -45,7 +45,7 @@ module _ {Image Command : Type 0} (rules : Rules Image Command) where
           ([], (refl, untouched f old reads, fresh, inr (why.0, why.1, refl, same_Some _ _ why.2)), none_printed w)
       at (Some t) (Some l) (Some f) (Some w) Unread reads tells why =
           ([], inl (why, refl, untouched f old reads, refl, fresh), none_printed w)
-      at (Some t) (Some l) (Some f) (Some w) Memory reads tells why = ([], (inl (refl, λ c is. inl is), refl), none_printed w)
+      at (Some t) (Some l) (Some f) (Some w) Memory reads tells why = ([], (inl (refl, (λ c is. inl is), λ cold. reads), refl), none_printed w)
       at (Some t) (Some l) (Some f) (Some w) stop reads tells why = absurd why
 
   -- the commands that were read, and that all the script is read
@@ -59,10 +59,10 @@ module _ {Image Command : Type 0} (rules : Rules Image Command) where
   session_stop rose t f w could new called commands (Unserved code) was served why =
       ([], (refl, code, why.refused, refl, why.rests, was, refl, (commands, served), why.unserved), none_printed w)
   session_stop rose t f w could new called commands Unreadable was served why =
-      ([], inr (inl (why.0, (commands, served), inl (refl, why.1), refl, was)), none_printed w)
+      ([], inr (inl (why.0, (commands, served), inl (refl, why.1.0, why.1.1), refl, was)), none_printed w)
   session_stop rose t f w could new called commands Unwritten was served why =
-      ([], inr (inr (inl (why.0, (commands, served), inl (refl, why.1), refl, was))), none_printed w)
-  session_stop rose t f w could new called commands Memory was served why = ([], (inl (refl, why), refl), none_printed w)
+      ([], inr (inr (inl (why.0, (commands, served), inl (refl, why.1.0, why.1.1), refl, was))), none_printed w)
+  session_stop rose t f w could new called commands Memory was served why = ([], (inl (refl, why.0, why.1), refl), none_printed w)
   session_stop rose t f w could new called commands stop was served why = absurd why
 
   -- the files were not opened
@@ -88,16 +88,25 @@ module _ {Image Command : Type 0} (rules : Rules Image Command) where
       → Run rules image (take count commands) verdicts last → Ran rules t f count verdicts last
   ran_of t f called commands image count verdicts last start run = record { commands = commands; served = start.served; image = image; serves = start.serves; run = run }
 
+  -- where the disk was left alone, the files have every byte that a recovery leaves
+  abbrev pub Kept : Type 0 → Left → Files → Type 0
+  Kept Quiet after f = Quiet → Each after (λ c. c ≡ rules.recovered f)
+
+  -- the files behind commands that were run
+  left_behind : (Quiet : Type 0) (after : Left) (f : Files) (verdicts : List Verdict) (last : Image) → Kept Quiet after f → Each after (rules.OpensTo last)
+      → IfNoneDone verdicts Quiet → IsLeftBehind rules f verdicts last after
+  left_behind Quiet after f verdicts last kept opens quiet = record { opens = opens; kept = λ none. kept (quiet none) }
+
   -- all commands were run
-  ran_each : (rose : Rises) (t : List ℕ) (f : Files) (w : List ℕ) (could : Files → Type 0) (after : Left) (called : Bool) (commands : List Command) (image : Image)
-      (now : Option (List ℕ)) (all_done : Bool) → IsStart t f called commands image → RanEach rules image commands (Some w) after now all_done
+  ran_each : (rose : Rises) (t : List ℕ) (f : Files) (w : List ℕ) (could : Files → Type 0) (after : Left) (called : Bool) (Quiet : Type 0) (commands : List Command) (image : Image)
+      (now : Option (List ℕ)) (all_done : Bool) → IsStart t f called commands image → Kept Quiet after f → RanEach rules Quiet image commands (Some w) after now all_done
       → IsSomeAnd now (λ n. RanSo rules rose could after called (Ok all_done) t [] f w n)
-  ran_each rose t f w could after called commands image now all_done start each =
+  ran_each rose t f w could after called Quiet commands image now all_done start kept each =
       let (verdicts, ran, all) = each in
       subst (λ n. IsSomeAnd n (λ n. RanSo rules rose could after called (Ok all_done) t [] f w n)) (sym ran.lines)
-      (verdicts, outcome all_done verdicts ran.last ran.run ran.files (sym all), refl)
+      (verdicts, outcome all_done verdicts ran.last ran.run (left_behind Quiet after f verdicts ran.last kept ran.files ran.quiet) (sym all), refl)
     where
-      outcome : (b : Bool) (verdicts : List Verdict) (last : Image) → Run rules image commands verdicts last → Each after (rules.OpensTo last)
+      outcome : (b : Bool) (verdicts : List Verdict) (last : Image) → Run rules image commands verdicts last → IsLeftBehind rules f verdicts last after
           → list_all is_done verdicts ≡ b → Outcome rules rose t f could (run_status b) verdicts [] after called []
       outcome true verdicts last run each all =
           (last, record { commands = commands; served = start.served; image = image; serves = start.serves; run = run }, each, all, refl, refl, start.was)
@@ -112,6 +121,13 @@ module _ {Image Command : Type 0} (rules : Rules Image Command) where
       let (command, next, (new, step, opens)) = is in
       inr (new, record { commands = commands; served = served; command = command; next = next; step = step }, opens)
 
+  -- the next command is done
+  next_done : (t : List ℕ) (commands : List Command) (count : ℕ) (last : Image) → IsServed rules t commands → IsDoneAt rules commands count last
+      → (new : Image) × IsNextDone rules t count last new
+  next_done t commands count last served is =
+      let (command, next, (new, step)) = is in
+      (new, record { commands = commands; served = served; command = command; next = next; step = step })
+
   -- the write of a command was torn
   ran_torn : (rose : Rises) (t : List ℕ) (f : Files) (w : List ℕ) (could : Files → Type 0) (after : Left) (called : Bool) (commands : List Command) (image : Image)
       (now : Option (List ℕ)) → IsStart t f called commands image → rose.writing → TornAt rules image commands (Some w) after now
@@ -120,73 +136,73 @@ module _ {Image Command : Type 0} (rules : Rules Image Command) where
       let before = ran_of t f called commands image at.count at.verdicts at.last start at.run in
       let near : EachCrash after (IsBetween rules t at.count at.last) = λ c left. between t commands at.count at.last c start.served (at.files c left) in
       subst (λ n. IsSomeAnd n (λ n. RanSo rules rose could after called (Err Unwritten) t [] f w n)) (sym at.lines)
-      (at.verdicts, inr (inr (inl (write, (commands, start.served), inr (at.count, at.last, before, near), refl, start.was))), refl)
+      (at.verdicts, inr (inr (inl (write, (commands, start.served), inr (at.count, at.last, before, near, next_done t commands at.count at.last start.served at.next), refl, start.was))), refl)
 
   -- the line of a command was not printed
-  ran_unprinted : (rose : Rises) (t : List ℕ) (f : Files) (w : List ℕ) (could : Files → Type 0) (after : Left) (called : Bool) (commands : List Command) (image : Image)
-      (now : Option (List ℕ)) → IsStart t f called commands image → rose.sink → UnprintedAt rules image commands (Some w) after now
+  ran_unprinted : (rose : Rises) (t : List ℕ) (f : Files) (w : List ℕ) (could : Files → Type 0) (after : Left) (called : Bool) (Quiet : Type 0) (commands : List Command) (image : Image)
+      (now : Option (List ℕ)) → IsStart t f called commands image → Kept Quiet after f → rose.sink → UnprintedAt rules Quiet image commands (Some w) after now
       → IsSomeAnd now (λ n. RanSo rules rose could after called (Err Unprinted) t [] f w n)
-  ran_unprinted rose t f w could after called commands image now start sunk at =
+  ran_unprinted rose t f w could after called Quiet commands image now start kept sunk at =
       let all = at.verdicts ++ at.verdict ∷ [] in
       let front = at.front in
       let before = ran_of t f called commands image at.count all at.last start at.run in
       let outcome : Outcome rules rose t f could statuses.Fault all [] after called [] =
-      inr (inr (inr (sunk, (at.count, at.last, before, at.files, start.was), refl))) in
+      inr (inr (inr (sunk, (at.count, at.last, before, left_behind Quiet after f all at.last kept at.files at.quiet, start.was), refl))) in
       subst (λ n. IsSomeAnd n (λ n. RanSo rules rose could after called (Err Unprinted) t [] f w n)) (sym front.written)
       (sunk, (at.verdicts, at.verdict, outcome, record { front = front.front; rest = front.rest; written = refl; whole = front.whole }))
 
   -- some commands were run
-  ran_some : (t : List ℕ) (f : Files) (w : List ℕ) (after : Left) (called : Bool) (commands : List Command) (image : Image)
-      (now : Option (List ℕ)) → IsStart t f called commands image → RanSome rules image commands (Some w) after now
+  ran_some : (t : List ℕ) (f : Files) (w : List ℕ) (after : Left) (called : Bool) (Quiet : Type 0) (commands : List Command) (image : Image)
+      (now : Option (List ℕ)) → IsStart t f called commands image → Kept Quiet after f → RanSome rules Quiet image commands (Some w) after now
       → (verdicts : List Verdict) × HasRun rules t f verdicts after called × (now ≡ Some (w ++ verdict_lines 1 verdicts))
-  ran_some t f w after called commands image now start some =
+  ran_some t f w after called Quiet commands image now start kept some =
       let (count, verdicts, ran) = some in
-      (verdicts, (count, ran.last, ran_of t f called commands image count verdicts ran.last start ran.run, ran.files, start.was), ran.lines)
+      (verdicts, (count, ran.last, ran_of t f called commands image count verdicts ran.last start ran.run, left_behind Quiet after f verdicts ran.last kept ran.files ran.quiet, start.was), ran.lines)
 
   -- the run of the commands was stopped
-  ran_stop : (rose : Rises) (t : List ℕ) (f : Files) (w : List ℕ) (could : Files → Type 0) (after : Left) (called : Bool) (commands : List Command) (image : Image)
-      (now : Option (List ℕ)) (stop : Stop) → IsStart t f called commands image → StoppedAt rules rose.reading rose.writing rose.sink image commands (Some w) after now stop
+  ran_stop : (rose : Rises) (t : List ℕ) (f : Files) (w : List ℕ) (could : Files → Type 0) (after : Left) (called : Bool) (Quiet : Type 0) (commands : List Command) (image : Image)
+      (now : Option (List ℕ)) (stop : Stop) → IsStart t f called commands image → Kept Quiet after f → StoppedAt rules rose.reading rose.writing rose.sink Quiet image commands (Some w) after now stop
       → IsSomeAnd now (λ n. RanSo rules rose could after called (Err stop) t [] f w n)
-  ran_stop rose t f w could after called commands image now Memory start why =
-      let (verdicts, ran, lines) = ran_some t f w after called commands image now start why in
+  ran_stop rose t f w could after called Quiet commands image now Memory start kept why =
+      let (verdicts, ran, lines) = ran_some t f w after called Quiet commands image now start kept why in
       subst (λ n. IsSomeAnd n (λ n. RanSo rules rose could after called (Err Memory) t [] f w n)) (sym lines)
       (verdicts, (inr ran, refl), refl)
-  ran_stop rose t f w could after called commands image now Unreadable start why =
-      let (verdicts, ran, lines) = ran_some t f w after called commands image now start why.1 in
+  ran_stop rose t f w could after called Quiet commands image now Unreadable start kept why =
+      let (verdicts, ran, lines) = ran_some t f w after called Quiet commands image now start kept why.1 in
       subst (λ n. IsSomeAnd n (λ n. RanSo rules rose could after called (Err Unreadable) t [] f w n)) (sym lines)
       (verdicts, inr (inl (why.0, (commands, start.served), inr ran, refl, start.was)), refl)
-  ran_stop rose t f w could after called commands image now Unwritten start why =
+  ran_stop rose t f w could after called Quiet commands image now Unwritten start kept why =
       ran_torn rose t f w could after called commands image now start why.0 why.1
-  ran_stop rose t f w could after called commands image now Unprinted start why =
-      ran_unprinted rose t f w could after called commands image now start why.0 why.1
-  ran_stop rose t f w could after called commands image now stop start why = absurd why
+  ran_stop rose t f w could after called Quiet commands image now Unprinted start kept why =
+      ran_unprinted rose t f w could after called Quiet commands image now start kept why.0 why.1
+  ran_stop rose t f w could after called Quiet commands image now stop start kept why = absurd why
 
   -- what the run of the commands left and wrote
-  abbrev pub Run_left : Type 0 → Type 0 → Type 0 → (Image → Type 0) → List Command → Left → Option (List ℕ) → Option (List ℕ) → Result Bool Stop → Type 0
-  Run_left Read Write Sunk IsOf commands after given now result =
-      IfOk result (λ all_done. (image : Image) → IsOf image → RanEach rules image commands given after now all_done)
-      × IfErr result (λ stop. (image : Image) → IsOf image → StoppedAt rules Read Write Sunk image commands given after now stop)
+  abbrev pub Run_left : Type 0 → Type 0 → Type 0 → Type 0 → (Image → Type 0) → List Command → Left → Option (List ℕ) → Option (List ℕ) → Result Bool Stop → Type 0
+  Run_left Read Write Sunk Quiet IsOf commands after given now result =
+      IfOk result (λ all_done. (image : Image) → IsOf image → RanEach rules Quiet image commands given after now all_done)
+      × IfErr result (λ stop. (image : Image) → IsOf image → StoppedAt rules Read Write Sunk Quiet image commands given after now stop)
 
   -- the commands were run, or stopped, where all three tell
-  ran_told : (rose : Rises) (t : List ℕ) (f : Files) (w : List ℕ) (could : Files → Type 0) (after : Left) (called : Bool) (commands : List Command) (IsOf : Image → Type 0)
+  ran_told : (rose : Rises) (t : List ℕ) (f : Files) (w : List ℕ) (could : Files → Type 0) (after : Left) (called : Bool) (Quiet : Type 0) (commands : List Command) (IsOf : Image → Type 0)
       (now : Option (List ℕ)) (result : Result Bool Stop) → called ≡ true → IsServed rules t commands → OpensOf rules IsOf f
-      → Run_left rose.reading rose.writing rose.sink IsOf commands after (Some w) now result
+      → Kept Quiet after f → Run_left rose.reading rose.writing rose.sink Quiet IsOf commands after (Some w) now result
       → IsSomeAnd now (λ n. RanSo rules rose could after called result t [] f w n)
-  ran_told rose t f w could after called commands IsOf now (Ok all_done) was served is left =
-      ran_each rose t f w could after called commands is.image now all_done
-      (record { was = was; served = served; serves = is.serves }) (left.0 is.image is.of)
-  ran_told rose t f w could after called commands IsOf now (Err stop) was served is left =
-      ran_stop rose t f w could after called commands is.image now stop
-      (record { was = was; served = served; serves = is.serves }) (left.1 is.image is.of)
+  ran_told rose t f w could after called Quiet commands IsOf now (Ok all_done) was served is kept left =
+      ran_each rose t f w could after called Quiet commands is.image now all_done
+      (record { was = was; served = served; serves = is.serves }) kept (left.0 is.image is.of)
+  ran_told rose t f w could after called Quiet commands IsOf now (Err stop) was served is kept left =
+      ran_stop rose t f w could after called Quiet commands is.image now stop
+      (record { was = was; served = served; serves = is.serves }) kept (left.1 is.image is.of)
 
   -- the commands were run, or stopped
   pub commands_ran : (rose : Rises) (text left : Option (List ℕ)) (before : Option Files) (could : Files → Type 0) (after : Left) (given now : Option (List ℕ))
-      (called : Bool) (commands : List Command) (IsOf : Image → Type 0) (result : Result Bool Stop) → called ≡ true → Commands_read text left commands
-      → IfTold before (OpensOf rules IsOf) → Run_left rose.reading rose.writing rose.sink IsOf commands after given now result
+      (called : Bool) (Quiet : Type 0) (commands : List Command) (IsOf : Image → Type 0) (result : Result Bool Stop) → called ≡ true → Commands_read text left commands
+      → IfTold before (OpensOf rules IsOf) → IfTold before (Kept Quiet after) → Run_left rose.reading rose.writing rose.sink Quiet IsOf commands after given now result
       → WhereTold text left before given now (RanSo rules rose could after called result)
-  commands_ran rose None left before could after given now called commands IsOf result was served is ran = tt
-  commands_ran rose (Some t) left None could after given now called commands IsOf result was served is ran = tt
-  commands_ran rose (Some t) left (Some f) could after None now called commands IsOf result was served is ran = tt
-  commands_ran rose (Some t) left (Some f) could after (Some w) now called commands IsOf result was served is ran =
+  commands_ran rose None left before could after given now called Quiet commands IsOf result was served is kept ran = tt
+  commands_ran rose (Some t) left None could after given now called Quiet commands IsOf result was served is kept ran = tt
+  commands_ran rose (Some t) left (Some f) could after None now called Quiet commands IsOf result was served is kept ran = tt
+  commands_ran rose (Some t) left (Some f) could after (Some w) now called Quiet commands IsOf result was served is kept ran =
       subst (λ l. WhereTold (Some t) l (Some f) (Some w) now (RanSo rules rose could after called result)) (sym served.1)
-      (ran_told rose t f w could after called commands IsOf now result was served.0 is ran)
+      (ran_told rose t f w could after called Quiet commands IsOf now result was served.0 is kept ran)

@@ -1,10 +1,10 @@
 -- The loop over the commands, by what each command makes of the image that it comes to.
-use Rattle.std.proofs.Common.{◌≡◌, ◌<◌, ℕ, ◌+◌, Bool, true, false, ◌&&◌, List, [], ◌∷◌, ◌++◌, length, take, Option, Some, None, option_map, get_or, refl, sym, ◌∙◌, ap, subst, arith, inl, inr, append-nil, append_assoc}
+use Rattle.std.proofs.Common.{◌≡◌, ◌<◌, ℕ, ◌+◌, Bool, true, false, ◌&&◌, ◌||◌, List, [], ◌∷◌, ◌++◌, length, take, Option, Some, None, option_map, get_or, refl, sym, ◌∙◌, ap, subst, arith, inl, inr, append-nil, append_assoc}
 use Rattle.std.proofs.Math.Seq.{take-length}
 use Rattle.std.proofs.lemmas.List.{length-take-le}
-use Rattle.std.proofs.lemmas.List.Folds.{list_all-append}
+use Rattle.std.proofs.lemmas.List.Folds.{list_all-append, list_any-append}
 use Rattle.std.proofs.lemmas.Option.{slice_get_read}
-use Rattle.std.specs.List.{list_all}
+use Rattle.std.specs.List.{list_all, list_any, slice_get}
 use Rattle.alter_disk.specs.Files.{Files}
 use Rattle.alter_disk.specs.Changes.{IfTold}
 use Rattle.plain_schema.specs.declared.verdict.Verdict.{Verdict}
@@ -12,6 +12,7 @@ use Rattle.plain_schema.specs.declared.verdict.Verdict.TheVariants.{Done}
 use Rattle.alter_cli.specs.Given.{WroteFront}
 use Rattle.alter_cli.specs.Left.{Each, EachCrash, Left}
 use Rattle.alter_cli.specs.Lines.{verdict_lines}
+use Rattle.alter_cli.specs.Outcome.{IfNoneDone}
 use Rattle.alter_cli.specs.Rules.{Rules}
 use Rattle.alter_cli.specs.Run.{Run}
 use Rattle.alter_cli.specs.Stops.{HasLines, IsNear, IsOpenTo, IsReachedBy, Makes, MayHave, RanEach, RanSome, TornAt, UnprintedAt}
@@ -26,6 +27,17 @@ all_push vs v = ap (λ b. list_all is_done vs && b) (and_true (is_done v)) ∙ s
     and_true : (b : Bool) → b ≡ (b && true)
     and_true true = refl
     and_true false = refl
+
+-- neither of two holds
+or_none : (a b : Bool) → (a || b) ≡ false → (a ≡ false) × (b ≡ false)
+or_none true b none = absurd cc
+or_none false b none = (refl, none)
+
+-- what holds where none of the verdicts is done, with one verdict more
+quiet_push : (Quiet Now : Type 0) (vs : List Verdict) (v : Verdict) → IfNoneDone vs Quiet → (Quiet → is_done v ≡ false → Now) → IfNoneDone (vs ++ v ∷ []) Now
+quiet_push Quiet Now vs v quiet more = λ none.
+    let both = or_none (list_any is_done vs) (list_any is_done (v ∷ [])) (sym (list_any-append is_done vs (v ∷ [])) ∙ none) in
+    more (quiet both.0) (or_none (is_done v) false both.1).0
 
 -- a command at a place of the list, with its number
 pub record IsNext {Command : Type 0} (commands : List Command) (place number : ℕ) (command : Command) : Type 0 where
@@ -70,22 +82,24 @@ lines_same None had now verdicts same is = tt
 lines_same (Some given) had now verdicts same is = same ∙ is
 
 module _ {Image Command : Type 0} (rules : Rules Image Command) where
-  -- these commands were run on an image, and the fact holds of the image behind them
-  pub record Reached (IsOf : Image → Type 0) (image : Image) (commands : List Command) (given now : Option (List ℕ)) (all : Bool) : Type 0 where
+  -- these commands were run on an image, and the fact holds of the image behind them; where none of them is done, so does the other
+  pub record Reached (Quiet : Type 0) (IsOf : Image → Type 0) (image : Image) (commands : List Command) (given now : Option (List ℕ)) (all : Bool) : Type 0 where
     pub verdicts : List Verdict
     pub last : Image
     pub run : Run rules image commands verdicts last
     pub of : IsOf last
+    pub quiet : IfNoneDone verdicts Quiet
     pub lines : HasLines given now verdicts
     pub told : all ≡ list_all is_done verdicts
 
   -- before the first command
-  pub reached_none : (IsOf : Image → Type 0) (given : Option (List ℕ)) (image : Image) → IsOf image → Reached IsOf image [] given given true
-  reached_none IsOf given image of = record {
+  pub reached_none : (Quiet : Type 0) (IsOf : Image → Type 0) (given : Option (List ℕ)) (image : Image) → Quiet → IsOf image → Reached Quiet IsOf image [] given given true
+  reached_none Quiet IsOf given image quiet of = record {
     verdicts = [];
     last = image;
     run = refl;
     of = of;
+    quiet = λ none. quiet;
     lines = none given;
     told = refl;
   }
@@ -110,14 +124,14 @@ module _ {Image Command : Type 0} (rules : Rules Image Command) where
       subst (λ cs. Run rules image cs (verdicts ++ verdict ∷ []) new) (sym (up_to commands place number command next))
       (run-grows rules image (take place commands) verdicts last command verdict new run step)
 
-  module _ (IsOf : Image → Type 0) (image : Image) (commands : List Command) (given : Option (List ℕ)) (place number : ℕ) (command : Command)
+  module _ (Quiet : Type 0) (IsOf : Image → Type 0) (image : Image) (commands : List Command) (given : Option (List ℕ)) (place number : ℕ) (command : Command)
       (had now : Option (List ℕ)) (all_done : Bool) (next : IsNext commands place number command)
-      (reached : Reached IsOf image (take place commands) given had all_done) where
+      (reached : Reached Quiet IsOf image (take place commands) given had all_done) where
     -- one command more
-    pub reached_more : (IsNew : Image → Type 0) (verdict : Verdict) → Makes rules IsOf command verdict IsNew
+    pub reached_more : (Now : Type 0) (IsNew : Image → Type 0) (verdict : Verdict) → (Quiet → is_done verdict ≡ false → Now) → Makes rules IsOf command verdict IsNew
         → now ≡ option_map (λ w. w ++ verdict_line number verdict) had
-        → Reached IsNew image (take (place + 1) commands) given now (all_done && is_done verdict)
-    reached_more IsNew verdict makes printed =
+        → Reached Now IsNew image (take (place + 1) commands) given now (all_done && is_done verdict)
+    reached_more Now IsNew verdict more makes printed =
         let verdicts = reached.verdicts in
         let step = makes reached.last reached.of in
         record {
@@ -125,28 +139,30 @@ module _ {Image Command : Type 0} (rules : Rules Image Command) where
           last = step.0;
           run = run_more image commands place number command verdicts verdict reached.last step.0 next reached.run step.1;
           of = step.2;
+          quiet = quiet_push Quiet Now verdicts verdict reached.quiet more;
           lines = lines_more given had now verdicts verdict number
               (numbered image commands place number command verdicts reached.last next reached.run) printed reached.lines;
           told = ap (λ b. b && is_done verdict) reached.told ∙ all_push verdicts verdict;
         }
 
     -- the next command changed nothing
-    pub reached_still : (after : Left) → IsOpenTo rules IsOf after → now ≡ had → RanSome rules image commands given after now
-    reached_still after opens same = (
+    pub reached_still : (Now : Type 0) (after : Left) → (Quiet → Now) → IsOpenTo rules IsOf after → now ≡ had → RanSome rules Now image commands given after now
+    reached_still Now after more opens same = (
       place,
       reached.verdicts,
       record {
         last = reached.last;
         run = reached.run;
         files = opens reached.last reached.of;
+        quiet = λ none. more (reached.quiet none);
         lines = lines_same given had now reached.verdicts same reached.lines;
       },
     )
 
     -- the last line of the commands that were run was not printed
-    pub unprinted : (after : Left) (verdict : Verdict) → Makes rules IsOf command verdict (λ new. Each after (rules.OpensTo new))
-        → IfTold had (λ w. WroteFront w (verdict_line number verdict) now) → UnprintedAt rules image commands given after now
-    unprinted after verdict makes front =
+    pub unprinted : (Now : Type 0) (after : Left) (verdict : Verdict) → (Quiet → is_done verdict ≡ false → Now) → Makes rules IsOf command verdict (λ new. Each after (rules.OpensTo new))
+        → IfTold had (λ w. WroteFront w (verdict_line number verdict) now) → UnprintedAt rules Now image commands given after now
+    unprinted Now after verdict more makes front =
         let verdicts = reached.verdicts in
         let step = makes reached.last reached.of in
         record {
@@ -156,25 +172,30 @@ module _ {Image Command : Type 0} (rules : Rules Image Command) where
           last = step.0;
           run = run_more image commands place number command verdicts verdict reached.last step.0 next reached.run step.1;
           files = step.2;
+          quiet = quiet_push Quiet Now verdicts verdict reached.quiet more;
           front = front_more given had now verdicts verdict number
               (numbered image commands place number command verdicts reached.last next reached.run) front reached.lines;
         }
 
     -- the write of the next command was cut short
     pub torn_at : (after : Left) → ((last : Image) → IsOf last → EachCrash after (MayHave rules last command)) → now ≡ had
-        → TornAt rules image commands given after now
-    torn_at after opens same = record {
+        → ((last : Image) → IsOf last → (new : Image) × rules.Step last command Done new) → TornAt rules image commands given after now
+    torn_at after opens same done = record {
       count = place;
       verdicts = reached.verdicts;
       last = reached.last;
       run = reached.run;
       files = λ c left. near c (opens reached.last reached.of c left);
+      next = (command, at_place, done reached.last reached.of);
       lines = lines_same given had now reached.verdicts same reached.lines;
     }
       where
+        at_place : slice_get commands place ≡ Some command
+        at_place = slice_get_read commands (length commands) place command refl next.within next.is
+
         near : (c : Files) → MayHave rules reached.last command c → IsNear rules commands place reached.last c
         near c (inl is) = inl is
-        near c (inr is) = inr (command, slice_get_read commands (length commands) place command refl next.within next.is, is)
+        near c (inr is) = inr (command, at_place, is)
 
     -- files that the next command may leave open to an image of the run
     pub may_reach : (c : Files) → MayHave rules reached.last command c → IsReachedBy rules image commands c
@@ -188,15 +209,16 @@ module _ {Image Command : Type 0} (rules : Rules Image Command) where
     )
 
   -- all commands
-  pub reached_all : (IsOf : Image → Type 0) (image : Image) (commands : List Command) (given now : Option (List ℕ)) (after : Left) (place : ℕ)
-      (all_done : Bool) → place ≡ length commands → IsOpenTo rules IsOf after → Reached IsOf image (take place commands) given now all_done
-      → RanEach rules image commands given after now all_done
-  reached_all IsOf image commands given now after place all_done end opens reached = (
+  pub reached_all : (Quiet Now : Type 0) (IsOf : Image → Type 0) (image : Image) (commands : List Command) (given now : Option (List ℕ)) (after : Left) (place : ℕ)
+      (all_done : Bool) → place ≡ length commands → (Quiet → Now) → IsOpenTo rules IsOf after → Reached Quiet IsOf image (take place commands) given now all_done
+      → RanEach rules Now image commands given after now all_done
+  reached_all Quiet Now IsOf image commands given now after place all_done end more opens reached = (
     reached.verdicts,
     record {
       last = reached.last;
       run = subst (λ cs. Run rules image cs reached.verdicts reached.last) (ap (λ n. take n commands) end ∙ take-length commands) reached.run;
       files = opens reached.last reached.of;
+      quiet = λ none. more (reached.quiet none);
       lines = reached.lines;
     },
     reached.told,

@@ -15,22 +15,22 @@ use Rattle.alter_cli.proofs.PerformLemmas.{Commands_read, Run_left}
 
 module _ {Image Command : Type 0} (rules : Rules Image Command) where
   -- a cause in a part of the call is one in the call
-  pub stopped_wider : (Read Write Read_all Write_all Sunk : Type 0) (image : Image) (commands : List Command) (given : Option (List ℕ)) (after : Left) (now : Option (List ℕ))
-      (stop : Stop) → (Read → Read_all) → (Write → Write_all) → StoppedAt rules Read Write Sunk image commands given after now stop
-      → StoppedAt rules Read_all Write_all Sunk image commands given after now stop
-  stopped_wider Read Write Read_all Write_all Sunk image commands given after now Memory read write why = why
-  stopped_wider Read Write Read_all Write_all Sunk image commands given after now Unreadable read write why = (read why.0, why.1)
-  stopped_wider Read Write Read_all Write_all Sunk image commands given after now Unwritten read write why = (write why.0, why.1)
-  stopped_wider Read Write Read_all Write_all Sunk image commands given after now Unprinted read write why = why
-  stopped_wider Read Write Read_all Write_all Sunk image commands given after now stop read write why = absurd why
+  pub stopped_wider : (Read Write Read_all Write_all Sunk Quiet : Type 0) (image : Image) (commands : List Command) (given : Option (List ℕ)) (after : Left) (now : Option (List ℕ))
+      (stop : Stop) → (Read → Read_all) → (Write → Write_all) → StoppedAt rules Read Write Sunk Quiet image commands given after now stop
+      → StoppedAt rules Read_all Write_all Sunk Quiet image commands given after now stop
+  stopped_wider Read Write Read_all Write_all Sunk Quiet image commands given after now Memory read write why = why
+  stopped_wider Read Write Read_all Write_all Sunk Quiet image commands given after now Unreadable read write why = (read why.0, why.1)
+  stopped_wider Read Write Read_all Write_all Sunk Quiet image commands given after now Unwritten read write why = (write why.0, why.1)
+  stopped_wider Read Write Read_all Write_all Sunk Quiet image commands given after now Unprinted read write why = why
+  stopped_wider Read Write Read_all Write_all Sunk Quiet image commands given after now stop read write why = absurd why
 
   -- the same of what the run of the commands left and wrote
-  pub wider : (Read Write Read_all Write_all Sunk : Type 0) (IsOf : Image → Type 0) (commands : List Command) (after : Left) (given now : Option (List ℕ)) (result : Result Bool Stop)
-      → (Read → Read_all) → (Write → Write_all) → Run_left rules Read Write Sunk IsOf commands after given now result
-      → Run_left rules Read_all Write_all Sunk IsOf commands after given now result
-  wider Read Write Read_all Write_all Sunk IsOf commands after given now (Ok all_done) read write is = is
-  wider Read Write Read_all Write_all Sunk IsOf commands after given now (Err stop) read write is =
-      (tt, λ image of. stopped_wider Read Write Read_all Write_all Sunk image commands given after now stop read write (is.1 image of))
+  pub wider : (Read Write Read_all Write_all Sunk Quiet : Type 0) (IsOf : Image → Type 0) (commands : List Command) (after : Left) (given now : Option (List ℕ)) (result : Result Bool Stop)
+      → (Read → Read_all) → (Write → Write_all) → Run_left rules Read Write Sunk Quiet IsOf commands after given now result
+      → Run_left rules Read_all Write_all Sunk Quiet IsOf commands after given now result
+  wider Read Write Read_all Write_all Sunk Quiet IsOf commands after given now (Ok all_done) read write is = is
+  wider Read Write Read_all Write_all Sunk Quiet IsOf commands after given now (Err stop) read write is =
+      (tt, λ image of. stopped_wider Read Write Read_all Write_all Sunk Quiet image commands given after now stop read write (is.1 image of))
 
   -- files that open to no image that is served were not opened
   pub unwritten_opened : (files after : Option Files) (IsOf : Image → Type 0) → IfTold files (OpensOf rules IsOf)

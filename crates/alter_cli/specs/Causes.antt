@@ -9,8 +9,8 @@ use Rattle.alter_cli.specs.declared.status.Status.TheVariants as statuses
 use Rattle.plain_schema.specs.declared.verdict.Verdict.{Verdict}
 use Rattle.alter_cli.specs.Lines.{verdict_lines}
 use Rattle.alter_cli.specs.Rules.{Rules}
-use Rattle.alter_cli.specs.Left.{Each, Left}
-use Rattle.alter_cli.specs.Outcome.{IsRunStatus, IsServed, RanAll, run_status, script_limit}
+use Rattle.alter_cli.specs.Left.{Left}
+use Rattle.alter_cli.specs.Outcome.{IsLeftBehind, IsRunStatus, IsServed, RanAll, run_status, script_limit}
 use Rattle.plain_schema.specs.Verdicts.{is_done}
 
 -- such a status comes only under the condition; and under it, unless want of memory or a fault with one of the causes comes
@@ -42,13 +42,12 @@ module _ {Image Command : Type 0} (rules : Rules Image Command) where
     pub image : Image
     pub serves : rules.Serves files image
 
-  -- every command was run, the files, read or left by a crash, open to the last image, the sink has a line for each and nothing else, and the status is
-  -- theirs
+  -- every command was run, the files are left behind them, the sink has a line for each and nothing else, and the status is theirs
   pub record RanWhole (text left : List ℕ) (before : Files) (after : Left) (given now : List ℕ) (status : Status) : Type 0 where
     pub verdicts : List Verdict
     pub last : Image
     pub ran : RanAll rules text before verdicts last
-    pub files : Each after (rules.OpensTo last)
+    pub files : IsLeftBehind rules before verdicts last after
     pub read : left ≡ []
     pub lines : now ≡ given ++ verdict_lines 1 verdicts
     pub ended : status ≡ run_status (list_all is_done verdicts)

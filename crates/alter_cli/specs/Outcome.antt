@@ -1,6 +1,6 @@
 -- How a call with a file's name ends.
 use Rattle.std.specs.Prelude.{◌≡◌, ◌≤◌, ◌<◌, ℕ, ◌+◌, ◌⊎◌, Bool, true, false, List, [], ◌∷◌, ◌++◌, length, take, drop, slice_get, Option, Some, None}
-use Rattle.std.specs.List.{list_all}
+use Rattle.std.specs.List.{list_all, list_any}
 use Rattle.alter_disk.specs.Crash.{NoMore}
 use Rattle.alter_disk.specs.Files.{Files}
 use Rattle.alter_disk.specs.Outside.{ReadRose, Rises}
@@ -71,6 +71,10 @@ pub record Printed (rose : Rises) (given now : List ℕ) (status : Status) : Typ
   pub line : IsLastLine rose planned last
   pub told : Told rose planned verdicts last given now status
 
+-- a fact that holds where none of the verdicts is done
+abbrev pub IfNoneDone : List Verdict → Type 0 → Type 0
+IfNoneDone verdicts P = list_any is_done verdicts ≡ false → P
+
 -- the call whose words name no file ended with this status
 abbrev pub Misused : Rises → List ℕ → List ℕ → Status → Type 0
 Misused rose given now status = Told rose Usage [] usage_line given now status
@@ -123,28 +127,36 @@ module _ {Image Command : Type 0} (rules : Rules Image Command) where
   abbrev pub IsBetween : List ℕ → ℕ → Image → Files → Type 0
   IsBetween text count last c = rules.OpensTo last c ⊎ ((new : Image) × IsNextDone text count last new × rules.OpensTo new c)
 
-  -- some commands were run, and the files, read or left by a crash, open to the image behind them
+  -- the files, read or left by a crash, open to the image behind the verdicts, and where none of these is done they have every
+  -- byte that a recovery leaves
+  pub record IsLeftBehind (before : Files) (verdicts : List Verdict) (last : Image) (after : Left) : Type 0 where
+    pub opens : Each after (rules.OpensTo last)
+    pub kept : IfNoneDone verdicts (Each after (λ c. c ≡ rules.recovered before))
+
+  -- some commands were run, and the files are left behind them
   abbrev pub HasRun : List ℕ → Files → List Verdict → Left → Bool → Type 0
   HasRun text before verdicts after called =
-      (count : ℕ) × (last : Image) × Ran text before count verdicts last × Each after (rules.OpensTo last) × (called ≡ true)
+      (count : ℕ) × (last : Image) × Ran text before count verdicts last × IsLeftBehind before verdicts last after × (called ≡ true)
 
-  -- there is no verdict, and a crash leaves the files as before
+  -- there is no verdict, a crash leaves the files as before, and where a recovery leaves them as they are they read so
   abbrev pub IsUnrun : Files → (Files → Type 0) → List Verdict → Left → Type 0
-  IsUnrun before could verdicts after = (verdicts ≡ []) × EachCrash after (IsAsBefore before could)
+  IsUnrun before could verdicts after =
+      (verdicts ≡ []) × EachCrash after (IsAsBefore before could) × (rules.recovered before ≡ before → after.reads ≡ Some before)
 
-  -- some commands were run, and a crash leaves the files before or after the next one
+  -- some commands were run, and a crash leaves the files before or after the next one, which is done
   abbrev pub StoppedWriting : List ℕ → Files → List Verdict → Left → Type 0
   StoppedWriting text before verdicts after =
       (count : ℕ) × (last : Image) × Ran text before count verdicts last × EachCrash after (IsBetween text count last)
+      × ((new : Image) × IsNextDone text count last new)
 
   -- How a call ends with this status, by the counts that rose in it: the verdicts that it gives, the line behind theirs,
   -- what the disk has after it, whether the disk was called, and what is left of the script.
   abbrev pub Outcome : Rises → List ℕ → Files → (Files → Type 0) → Status → List Verdict → List ℕ → Left → Bool → List ℕ → Type 0
   Outcome rose text before could Done verdicts last after called left =
-      (image : Image) × RanAll text before verdicts image × Each after (rules.OpensTo image) × (list_all is_done verdicts ≡ true) × (last ≡ []) × (left ≡ [])
+      (image : Image) × RanAll text before verdicts image × IsLeftBehind before verdicts image after × (list_all is_done verdicts ≡ true) × (last ≡ []) × (left ≡ [])
       × (called ≡ true)
   Outcome rose text before could Refused verdicts last after called left =
-      (image : Image) × RanAll text before verdicts image × Each after (rules.OpensTo image) × (list_all is_done verdicts ≡ false) × (last ≡ []) × (left ≡ [])
+      (image : Image) × RanAll text before verdicts image × IsLeftBehind before verdicts image after × (list_all is_done verdicts ≡ false) × (last ≡ []) × (left ≡ [])
       × (called ≡ true)
   Outcome rose text before could Script verdicts last after called left =
       (verdicts ≡ []) × IsUntouched before could after × (called ≡ false)

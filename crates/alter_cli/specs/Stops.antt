@@ -1,5 +1,5 @@
 -- Why a call stops, and what its parts leave.
-use Rattle.std.specs.Prelude.{◌≡◌, ◌⊎◌, ◌≤◌, ◌<◌, ℕ, ◌+◌, Bool, Option, Some, Result, Ok, Err, IsSomeAnd, List, [], ◌∷◌, ◌++◌, length, take, drop}
+use Rattle.std.specs.Prelude.{◌≡◌, ◌⊎◌, ◌≤◌, ◌<◌, ℕ, ◌+◌, Bool, false, Option, Some, Result, Ok, Err, IsSomeAnd, List, [], ◌∷◌, ◌++◌, length, take, drop}
 use Rattle.std.specs.List.{list_all, slice_get}
 use Rattle.alter_disk.specs.declared.disk.Disk.{Ghosts}
 use Rattle.alter_disk.specs.Files.{Files}
@@ -19,7 +19,7 @@ use Rattle.alter_cli.specs.Codes.{file_line}
 use Rattle.alter_cli.specs.Left.{Each, EachCrash, Left, left_on}
 use Rattle.alter_cli.specs.Lines.{verdict_lines, usage_line, too_long_line, script_unbuilt_line, fault_read_line, fault_write_line, memory_line}
 use Rattle.plain_schema.specs.Verdicts.{is_done, verdict_line}
-use Rattle.alter_cli.specs.Outcome.{IsAsBefore, IsServed, Outcome, run_status, script_limit}
+use Rattle.alter_cli.specs.Outcome.{IfNoneDone, IsAsBefore, IsServed, Outcome, run_status, script_limit}
 use Rattle.alter_cli.specs.Rules.{Rules}
 use Rattle.alter_cli.specs.Run.{Run}
 
@@ -95,9 +95,10 @@ module _ {Image Command : Type 0} (rules : Rules Image Command) where
   NoScript Faulted had left Memory = Unit {0}
   NoScript Faulted had left _ = ⊥
 
-  -- the files, where they are told, are left as before by each crash
+  -- the files, where they are told, are left as before by each crash, and where a recovery leaves them as they are they read so
   abbrev pub IsLeftAlike : Left → Left → Type 0
-  IsLeftAlike old new = IfTold old.reads (λ files. EachCrash new (IsAsBefore rules files old.crash))
+  IsLeftAlike old new = IfTold old.reads (λ files.
+      EachCrash new (IsAsBefore rules files old.crash) × (rules.recovered files ≡ files → new.reads ≡ Some files))
 
   -- the files are refused with this code, they are the recovered ones, and they open to no image that is served
   pub record IsRefusedSo (files : Files) (code : FileCode) (after : Left) : Type 0 where
@@ -114,53 +115,60 @@ module _ {Image Command : Type 0} (rules : Rules Image Command) where
   NoSession Read Write old new _ = ⊥
 
   -- These commands were run on an image: the files, read or left by a crash, open to the last image, and the sink has the
-  -- lines of the verdicts as well.
-  pub record RanTo (image : Image) (commands : List Command) (given : Option (List ℕ)) (after : Left) (now : Option (List ℕ)) (verdicts : List Verdict) : Type 0 where
+  -- lines of the verdicts as well. Where none of them is done, the disk was left alone as the fact says.
+  pub record RanTo (Quiet : Type 0) (image : Image) (commands : List Command) (given : Option (List ℕ)) (after : Left) (now : Option (List ℕ)) (verdicts : List Verdict) : Type 0 where
     pub last : Image
     pub run : Run rules image commands verdicts last
     pub files : Each after (rules.OpensTo last)
+    pub quiet : IfNoneDone verdicts Quiet
     pub lines : HasLines given now verdicts
 
   -- all of these commands were run, and each of them is done or not
-  abbrev pub RanEach : Image → List Command → Option (List ℕ) → Left → Option (List ℕ) → Bool → Type 0
-  RanEach image commands given after now all_done =
-      (verdicts : List Verdict) × RanTo image commands given after now verdicts × (all_done ≡ list_all is_done verdicts)
+  abbrev pub RanEach : Type 0 → Image → List Command → Option (List ℕ) → Left → Option (List ℕ) → Bool → Type 0
+  RanEach Quiet image commands given after now all_done =
+      (verdicts : List Verdict) × RanTo Quiet image commands given after now verdicts × (all_done ≡ list_all is_done verdicts)
 
   -- the files open to this image, or to the one after the command at this place, which is done
   abbrev pub IsNear : List Command → ℕ → Image → Files → Type 0
   IsNear commands place last c =
       rules.OpensTo last c ⊎ ((command : Command) × (slice_get commands place ≡ Some command) × ((new : Image) × rules.Step last command Done new × rules.OpensTo new c))
 
-  -- some of these commands were run, and the next was being written
+  -- the command at this place is done on the image
+  abbrev pub IsDoneAt : List Command → ℕ → Image → Type 0
+  IsDoneAt commands place last = (command : Command) × (slice_get commands place ≡ Some command) × ((new : Image) × rules.Step last command Done new)
+
+  -- some of these commands were run, and the next, which is done, was being written
   pub record TornAt (image : Image) (commands : List Command) (given : Option (List ℕ)) (after : Left) (now : Option (List ℕ)) : Type 0 where
     pub count : ℕ
     pub verdicts : List Verdict
     pub last : Image
     pub run : Run rules image (take count commands) verdicts last
     pub files : EachCrash after (IsNear commands count last)
+    pub next : IsDoneAt commands count last
     pub lines : HasLines given now verdicts
 
   -- some of these commands were run, and the line of the last of them was not printed to its end
-  pub record UnprintedAt (image : Image) (commands : List Command) (given : Option (List ℕ)) (after : Left) (now : Option (List ℕ)) : Type 0 where
+  pub record UnprintedAt (Quiet : Type 0) (image : Image) (commands : List Command) (given : Option (List ℕ)) (after : Left) (now : Option (List ℕ)) : Type 0 where
     pub count : ℕ
     pub verdicts : List Verdict
     pub verdict : Verdict
     pub last : Image
     pub run : Run rules image (take count commands) (verdicts ++ verdict ∷ []) last
     pub files : Each after (rules.OpensTo last)
+    pub quiet : IfNoneDone (verdicts ++ verdict ∷ []) Quiet
     pub front : IfTold given (λ w. WroteFront (w ++ verdict_lines 1 verdicts) (verdict_line (1 + length verdicts) verdict) now)
 
   -- some of these commands were run
-  abbrev pub RanSome : Image → List Command → Option (List ℕ) → Left → Option (List ℕ) → Type 0
-  RanSome image commands given after now = (count : ℕ) × (verdicts : List Verdict) × RanTo image (take count commands) given after now verdicts
+  abbrev pub RanSome : Type 0 → Image → List Command → Option (List ℕ) → Left → Option (List ℕ) → Type 0
+  RanSome Quiet image commands given after now = (count : ℕ) × (verdicts : List Verdict) × RanTo Quiet image (take count commands) given after now verdicts
 
   -- why not all of these commands were run on an image, by the files and the sink after them
-  abbrev pub StoppedAt : Type 0 → Type 0 → Type 0 → Image → List Command → Option (List ℕ) → Left → Option (List ℕ) → Stop → Type 0
-  StoppedAt Read Write Sunk image commands given after now Memory = RanSome image commands given after now
-  StoppedAt Read Write Sunk image commands given after now Unreadable = Read × RanSome image commands given after now
-  StoppedAt Read Write Sunk image commands given after now Unwritten = Write × TornAt image commands given after now
-  StoppedAt Read Write Sunk image commands given after now Unprinted = Sunk × UnprintedAt image commands given after now
-  StoppedAt Read Write Sunk image commands given after now _ = ⊥
+  abbrev pub StoppedAt : Type 0 → Type 0 → Type 0 → Type 0 → Image → List Command → Option (List ℕ) → Left → Option (List ℕ) → Stop → Type 0
+  StoppedAt Read Write Sunk Quiet image commands given after now Memory = RanSome Quiet image commands given after now
+  StoppedAt Read Write Sunk Quiet image commands given after now Unreadable = Read × RanSome Quiet image commands given after now
+  StoppedAt Read Write Sunk Quiet image commands given after now Unwritten = Write × TornAt image commands given after now
+  StoppedAt Read Write Sunk Quiet image commands given after now Unprinted = Sunk × UnprintedAt Quiet image commands given after now
+  StoppedAt Read Write Sunk Quiet image commands given after now _ = ⊥
 
   -- the files open to an image of a run over some of these commands
   abbrev pub IsReachedBy : Image → List Command → Files → Type 0
@@ -185,16 +193,18 @@ module _ {Image Command : Type 0} (rules : Rules Image Command) where
   abbrev pub MayHave : Image → Command → Files → Type 0
   MayHave image command c = rules.OpensTo image c ⊎ ((new : Image) × rules.Step image command Done new × rules.OpensTo new c)
 
-  -- why a command of this number was not run to its end on an image of which the fact holds, by the files and the sink
-  abbrev pub NotRun : Type 0 → Type 0 → Type 0 → (Image → Type 0) → ℕ → Command → Left → Option (List ℕ) → Option (List ℕ) → Stop → Type 0
-  NotRun Read Write Sunk IsOf number command after had has Memory = IsOpenTo IsOf after × (has ≡ had)
-  NotRun Read Write Sunk IsOf number command after had has Unreadable = Read × IsOpenTo IsOf after × (has ≡ had)
-  NotRun Read Write Sunk IsOf number command after had has Unwritten =
+  -- why a command of this number was not run to its end on an image of which the fact holds, by the files and the sink; unless it
+  -- is done, the disk was left alone as the fact on it says
+  abbrev pub NotRun : Type 0 → Type 0 → Type 0 → Type 0 → (Image → Type 0) → ℕ → Command → Left → Option (List ℕ) → Option (List ℕ) → Stop → Type 0
+  NotRun Read Write Sunk Quiet IsOf number command after had has Memory = IsOpenTo IsOf after × (has ≡ had) × Quiet
+  NotRun Read Write Sunk Quiet IsOf number command after had has Unreadable = Read × IsOpenTo IsOf after × (has ≡ had) × Quiet
+  NotRun Read Write Sunk Quiet IsOf number command after had has Unwritten =
       Write × ((image : Image) → IsOf image → EachCrash after (MayHave image command)) × (has ≡ had)
-  NotRun Read Write Sunk IsOf number command after had has Unprinted =
+      × ((image : Image) → IsOf image → (new : Image) × rules.Step image command Done new)
+  NotRun Read Write Sunk Quiet IsOf number command after had has Unprinted =
       Sunk × ((verdict : Verdict) × Makes IsOf command verdict (λ image. Each after (rules.OpensTo image))
-      × IfTold had (λ given. WroteFront given (verdict_line number verdict) has))
-  NotRun Read Write Sunk IsOf number command after had has _ = ⊥
+      × IfTold had (λ given. WroteFront given (verdict_line number verdict) has) × (is_done verdict ≡ false → Quiet))
+  NotRun Read Write Sunk Quiet IsOf number command after had has _ = ⊥
 
   -- The call ran its commands, each of them done or not, or stopped so. The line of a stop is still to come.
   abbrev pub RanSo : Rises → (Files → Type 0) → Left → Bool → Result Bool Stop → List ℕ → List ℕ → Files → List ℕ → List ℕ → Type 0

@@ -5,9 +5,9 @@ ghost use Rattle.alter_disk.specs.Moments.{Leaves};
 ghost use Rattle.alter_disk.specs.Uses.{ReadFailed, WriteFailed};
 ghost use Rattle.rollback_journal.specs.Recovery.{recovered};
 ghost use Rattle.rollback_journal.specs.Standing.{standing};
-ghost use Rattle.alter_session.specs.Session.{Holds, IsReady};
+ghost use Rattle.alter_session.specs.Session.{Holds, IsReady, disk_of};
 ghost use Rattle.alter_cli.specs.First.{first_rules};
-ghost use Rattle.alter_cli.specs.Left.{left_on};
+ghost use Rattle.alter_cli.specs.Left.{Each, left_on};
 ghost use Rattle.alter_cli.specs.Opened.{IsUnopened, OpensQuietly, StaysOpen, disk_open};
 ghost use Rattle.alter_cli.specs.StopOf.{stop_of_error, stop_of_way};
 ghost use Rattle.alter_cli.specs.Stops.{NoSession, OpensOf};
@@ -68,6 +68,7 @@ pub fn open_session<D: Disk>(
     requires name { IfSome (D.label disk) (λ known. name.now ≡ known) }
     ensures ready { IfOk result (IsReady D.Disk) }
     ensures opened { IfOk result (λ session. IfTold (D.files disk) (OpensOf first_rules (λ image. Holds D.Disk image session))) }
+    ensures rests { IfOk result (λ session. IfTold (D.files disk) (λ files. Each (left_on D.Disk (disk_of session)) (λ c. c ≡ recovered files))) }
     ensures stop { IfErr result (λ halted. NoSession first_rules (ReadFailed D.Disk disk halted.disk) (WriteFailed D.Disk disk halted.disk)
         (left_on D.Disk disk) (left_on D.Disk halted.disk) halted.stop) }
     ensures stops { IfTold (D.files disk) (λ files. Leaves D.Disk disk (disk_open result) (λ c. standing c ≡ standing files)) }

@@ -1,11 +1,12 @@
 //! The run of the script's commands.
 ghost use Rattle.std.specs.Prelude.{◌≡◌, ◌≤◌, ◌<◌, ◌^◌, ◌++◌, length, option_map, IfOk, IfErr};
 ghost use Rattle.std.specs.List.{AllByRecursion};
-ghost use Rattle.alter_disk.specs.Moments.{Leaves, Stays};
+ghost use Rattle.alter_disk.specs.Moments.{Leaves, ReadsQuietly, Stays};
 ghost use Rattle.alter_disk.specs.Uses.{ReadFailed, SinkFailed, WriteFailed};
 ghost use Rattle.plain_sql.specs.Script.{IsPlainCommand};
 ghost use Rattle.plain_schema.specs.Image.{Image};
 ghost use Rattle.plain_schema.specs.Verdicts.{verdict_line};
+ghost use Rattle.alter_session.specs.Applying.{ReadsUnlessDone};
 ghost use Rattle.alter_session.specs.Session.{Holds, IsReady, disk_of};
 ghost use Rattle.alter_cli.specs.Ending.{WhereSinkTells};
 ghost use Rattle.alter_cli.specs.First.{first_rules};
@@ -51,8 +52,9 @@ fn run_command<D: Disk, K: Sink>(
     ensures ready { IfOk result (λ turn. IsReady D.Disk turn.session) }
     ensures makes { IfOk result (λ turn. Makes first_rules (λ image. Holds D.Disk image session) command.now turn.verdict (λ image. Holds D.Disk image turn.session)) }
     ensures line { IfOk result (λ turn. K.written out.new ≡ option_map (λ w. w ++ verdict_line number turn.verdict) (K.written out.old)) }
+    ensures quiet { IfOk result (λ turn. ReadsUnlessDone D.Disk turn.verdict (disk_of session) (disk_of turn.session)) }
     ensures stop { IfErr result (λ halted. NotRun first_rules (ReadFailed D.Disk (disk_of session) halted.disk) (WriteFailed D.Disk (disk_of session) halted.disk)
-        (SinkFailed K.Sink out.old out.new) (λ image. Holds D.Disk image session) number command.now (left_on D.Disk halted.disk)
+        (SinkFailed K.Sink out.old out.new) (ReadsQuietly D.Disk (disk_of session) halted.disk) (λ image. Holds D.Disk image session) number command.now (left_on D.Disk halted.disk)
         (K.written out.old) (K.written out.new) halted.stop) }
     ensures stops { (image : Image) → Holds D.Disk image session → Leaves D.Disk (disk_of session) (disk_turned result) (MayHave first_rules image command.now) }
     ensures stays { Stays D.Disk (disk_of session) (disk_turned result) }
@@ -91,10 +93,10 @@ pub fn run_commands<D: Disk, K: Sink>(
     requires plain { AllByRecursion IsPlainCommand commands.now }
     requires small { AllByRecursion (λ command. length command.column < 2 ^ 30) commands.now }
     ensures ran { IfOk result.result (λ all_done. (image : Image) → Holds D.Disk image session →
-        RanEach first_rules image commands.now (K.written out.old) (left_on D.Disk result.disk) (K.written out.new) all_done) }
+        RanEach first_rules (ReadsQuietly D.Disk (disk_of session) result.disk) image commands.now (K.written out.old) (left_on D.Disk result.disk) (K.written out.new) all_done) }
     ensures stop { IfErr result.result (λ stop. (image : Image) → Holds D.Disk image session →
         StoppedAt first_rules (ReadFailed D.Disk (disk_of session) result.disk) (WriteFailed D.Disk (disk_of session) result.disk) (SinkFailed K.Sink out.old out.new)
-        image commands.now (K.written out.old) (left_on D.Disk result.disk) (K.written out.new) stop) }
+        (ReadsQuietly D.Disk (disk_of session) result.disk) image commands.now (K.written out.old) (left_on D.Disk result.disk) (K.written out.new) stop) }
     ensures stops { (image : Image) → Holds D.Disk image session → Leaves D.Disk (disk_of session) result.disk (IsReachedBy first_rules image commands.now) }
     ensures printed { WhereSinkTells (K.written out.old) (K.written out.new) (λ given now. GaveLines (SinkFailed K.Sink out.old out.new) given now result.result) }
     ensures cause { IfErr result.result (IsRunStop (ReadFailed D.Disk (disk_of session) result.disk) (WriteFailed D.Disk (disk_of session) result.disk) (SinkFailed K.Sink out.old out.new)) }

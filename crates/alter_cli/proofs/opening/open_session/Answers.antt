@@ -1,14 +1,19 @@
-use Rattle.std.proofs.Common.{sym, subst}
+use Rattle.std.proofs.Common.{◌∙◌, is_some, ap, sym, subst}
 use Rattle.alter_disk.specs.Uses.{ReadFailed, WriteFailed}
 use Rattle.alter_cli.specs.First.{first_rules}
 use Rattle.alter_cli.specs.Left.{left_on}
 use Rattle.alter_cli.specs.Stops.{NoSession}
-use Rattle.alter_cli.proofs.OpenLemmas.{no_session_for, opened_told}
+use Rattle.alter_cli.proofs.OpenLemmas.{no_session_for, opened_told, rests_told}
 use Rattle.alter_cli.proofs.opening.open_session.Goals as goal
 
 pub returns-in-Ok-clause-opened : goal.returns-in-Ok-clause-opened
 returns-in-Ok-clause-opened g c =
     opened_told g.D.Disk (g.D.Disk.files c.args.disk) (g.D.Disk.files c.open.new.disk) c.in-Ok.session c.open.ensures.opens.only.files c.in-Ok.ensures.opened
+
+pub returns-in-Ok-clause-rests : goal.returns-in-Ok-clause-rests
+returns-in-Ok-clause-rests g c =
+    rests_told g.D.Disk (g.D.Disk.files c.args.disk) (g.D.Disk.files c.open.new.disk) c.in-Ok.session c.open.ensures.opens.only.files
+    (c.in-Ok.ensures.stays.telling ∙ ap is_some c.open.ensures.opens.only.files) c.in-Ok.ensures.opened
 
 pub returns-in-Err-open-clause-stop : goal.returns-in-Err-open-clause-stop
 returns-in-Err-open-clause-stop g c =
@@ -16,4 +21,5 @@ returns-in-Err-open-clause-stop g c =
     subst (NoSession first_rules (ReadFailed g.D.Disk c.args.disk d) (WriteFailed g.D.Disk c.args.disk d) (left_on g.D.Disk c.args.disk) (left_on g.D.Disk d))
     (sym c.stop_of_error.ensures)
     (no_session_for g.D.Disk g.met.D.Disk.counts_now g.met.D.Disk.only_now c.args.disk c.open.new.disk d c.in-Err-open.field-0.cause c.open.ensures.opens
-    c.in-Err-open.ensures.stays.telling c.in-Err-open.ensures.refused c.in-Err-open.ensures.stops c.in-Err-open.ensures.cause)
+    c.in-Err-open.ensures.stays.telling c.in-Err-open.ensures.refused c.in-Err-open.ensures.stops c.in-Err-open.ensures.cause
+    c.in-Err-open.ensures.kept)

@@ -1,6 +1,6 @@
 use Rattle.std.proofs.Common.{◌∙◌, List, arith, subst}
 use Rattle.alter_disk.specs.Faults.{Rose}
-use Rattle.alter_disk.specs.Moments.{Leaves}
+use Rattle.alter_disk.specs.Moments.{Leaves, ReadsQuietly}
 use Rattle.alter_disk.specs.Outside.{Rises, rises, span}
 use Rattle.alter_disk.specs.Uses.{ReadFailed, WriteFailed}
 use Rattle.plain_sql.specs.declared.script.Command.{Command}
@@ -9,6 +9,7 @@ use Rattle.alter_session.specs.Session.{Holds, disk_of}
 use Rattle.alter_cli.specs.First.{first_rules}
 use Rattle.alter_cli.specs.Left.{left_on}
 use Rattle.alter_cli.specs.Stops.{CanRunTold, IsReachedBy}
+use Rattle.alter_cli.proofs.FirstRun.{still_kept}
 use Rattle.alter_cli.proofs.PerformLemmas.{Run_left, commands_ran, no_script, no_session}
 use Rattle.alter_cli.proofs.StatusLemmas.{can_run_told, err_cause, ok_able, session_cause}
 use Rattle.alter_cli.proofs.StopLemmas.{stopped_alike, stopped_none, stopped_run, unwritten_cold, unwritten_opened, wider}
@@ -92,11 +93,12 @@ returns-in-Ok-open_session-clause-told g c =
     let sunk = Rose (g.K.Sink.faults c.args.out.now) (g.K.Sink.faults c.run_commands.new.out) in
     let of : Image → Type 0 = λ image. Holds g.D.Disk image c.in-Ok-open_session.session in
     let rose : Rises = rises (span g.S.Source g.D.Disk g.K.Sink (c.args.script.now, c.args.disk, c.args.out.now) (c.read_commands.new.script, d, c.run_commands.new.out)) in
-    let left : List Command → Type 0 = λ commands. Run_left first_rules (ReadFailed g.D.Disk session d) (WriteFailed g.D.Disk session d) sunk of commands
+    let left : List Command → Type 0 = λ commands. Run_left first_rules (ReadFailed g.D.Disk session d) (WriteFailed g.D.Disk session d) sunk (ReadsQuietly g.D.Disk session d) of commands
     (left_on g.D.Disk d) given now c.run_commands.result.result in
     let ran : left c.as_slice.result.now = (c.run_commands.ensures.ran, c.run_commands.ensures.stop) in
     commands_ran first_rules rose (g.S.Source.left c.args.script.now) (g.S.Source.left c.read_commands.new.script) (g.D.Disk.files c.args.disk)
-    (g.D.Disk.may_leave c.args.disk) (left_on g.D.Disk d) given now (g.D.Disk.called d) c.in-Ok.commands.items of c.run_commands.result.result
+    (g.D.Disk.may_leave c.args.disk) (left_on g.D.Disk d) given now (g.D.Disk.called d) (ReadsQuietly g.D.Disk session d) c.in-Ok.commands.items of c.run_commands.result.result
     (c.run_commands.ensures.stays.called ∙ stays.called) c.in-Ok.ensures.found c.in-Ok-open_session.ensures.opened
-    (wider first_rules (ReadFailed g.D.Disk session d) (WriteFailed g.D.Disk session d) rose.reading rose.writing sunk of c.in-Ok.commands.items (left_on g.D.Disk d) given now
+    (still_kept g.D.Disk (g.D.Disk.files c.args.disk) session d c.in-Ok-open_session.ensures.rests)
+    (wider first_rules (ReadFailed g.D.Disk session d) (WriteFailed g.D.Disk session d) rose.reading rose.writing sunk (ReadsQuietly g.D.Disk session d) of c.in-Ok.commands.items (left_on g.D.Disk d) given now
     c.run_commands.result.result (λ r. omega (arith, stays.reads, r)) (λ r. omega (arith, stays.writes, r)) (subst left c.as_slice.ensures.value ran))

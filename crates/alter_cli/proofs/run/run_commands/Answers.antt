@@ -1,22 +1,23 @@
 use Rattle.std.proofs.Common.{arith, ◌≡◌, ◌&&◌, ◌+◌, take, refl, sym, ◌∙◌, ap, subst}
 use Rattle.alter_disk.specs.Faults.{Rose}
-use Rattle.alter_disk.specs.Moments.{Leaves}
+use Rattle.alter_disk.specs.Moments.{Leaves, ReadsQuietly}
 use Rattle.alter_disk.specs.Uses.{ReadFailed, WriteFailed}
 use Rattle.plain_schema.specs.Verdicts.{is_done}
 use Rattle.alter_session.specs.Session.{Holds, disk_of}
 use Rattle.alter_cli.specs.First.{first_rules}
 use Rattle.alter_cli.specs.Left.{left_on}
 use Rattle.alter_cli.specs.Stops.{IsReachedBy, MayHave}
-use Rattle.alter_disk.proofs.Moments.{goes_far, started, stays_none, stays_on, weaker}
+use Rattle.alter_disk.proofs.Moments.{goes_far, reads_none, reads_on, started, stays_none, stays_on, weaker}
 use Rattle.alter_cli.proofs.Printed.{gave_more, gave_none}
-use Rattle.alter_cli.proofs.FirstRun.{closed_each, reached_stop}
+use Rattle.alter_cli.proofs.FirstRun.{closed_each, reached_stop, reads_refused}
 use Rattle.alter_cli.proofs.Reached.{Reached, is_next, may_reach, reached_all, reached_more, reached_none}
 use Rattle.alter_cli.proofs.run.run_commands.Goals as goal
 use Rattle.alter_cli.proofs.run.run_commands.Goals.{then-all_done, else-all_done}
 
 pub loop-command-init : goal.loop-command-init
 loop-command-init g c = record {
-  reached = λ image holds. reached_none first_rules (λ i. Holds g.D.Disk i c.args.session) (g.K.Sink.written c.args.out.now) image holds;
+  reached = λ image holds. reached_none first_rules (ReadsQuietly g.D.Disk (disk_of c.args.session) (disk_of c.args.session)) (λ i. Holds g.D.Disk i c.args.session)
+      (g.K.Sink.written c.args.out.now) image (reads_none g.D.Disk (disk_of c.args.session)) holds;
   stops = λ image holds. started g.D.Disk (disk_of c.args.session) (IsReachedBy first_rules image c.args.commands.now);
   ready = c.requires.ready;
   number = refl;
@@ -33,10 +34,11 @@ returns-in-Err-clause-stop g c = λ image holds.
     reached_stop (ReadFailed g.D.Disk (disk_of c.loop-command.session) d) (WriteFailed g.D.Disk (disk_of c.loop-command.session) d)
     (Rose (g.K.Sink.faults c.loop-command.out) (g.K.Sink.faults c.run_command.new.out)) (ReadFailed g.D.Disk (disk_of c.args.session) d)
     (WriteFailed g.D.Disk (disk_of c.args.session) d) (Rose (g.K.Sink.faults c.args.out.now) (g.K.Sink.faults c.run_command.new.out))
-    (λ i. Holds g.D.Disk i c.loop-command.session) image c.args.commands.now (g.K.Sink.written c.args.out.now) (g.K.Sink.written c.loop-command.out)
+    (ReadsQuietly g.D.Disk (disk_of c.args.session) (disk_of c.loop-command.session)) (ReadsQuietly g.D.Disk (disk_of c.loop-command.session) d)
+    (ReadsQuietly g.D.Disk (disk_of c.args.session) d) (λ i. Holds g.D.Disk i c.loop-command.session) image c.args.commands.now (g.K.Sink.written c.args.out.now) (g.K.Sink.written c.loop-command.out)
     (g.K.Sink.written c.run_command.new.out) c.loop-command.command-index (c.loop-command.number + 1) c.command-item.result (left_on g.D.Disk d)
     c.loop-command.all_done c.in-Err.field-0.stop (λ r. omega (arith, inv.stays.reads, r)) (λ r. omega (arith, inv.stays.writes, r))
-    (λ r. omega (arith, inv.sink, r)) next c.in-Err.ensures.stop (inv.reached image holds)
+    (λ r. omega (arith, inv.sink, r)) (reads_on g.D.Disk (disk_of c.args.session) (disk_of c.loop-command.session) d) next c.in-Err.ensures.stop (inv.reached image holds)
 
 pub returns-in-Err-clause-stops : goal.returns-in-Err-clause-stops
 returns-in-Err-clause-stops g c = λ image holds.
@@ -46,7 +48,7 @@ returns-in-Err-clause-stops g c = λ image holds.
     let reached = inv.reached image holds in
     goes_far g.D.Disk (disk_of c.args.session) (disk_of c.loop-command.session) d (IsReachedBy first_rules image c.args.commands.now) (inv.stops image holds)
     (weaker g.D.Disk (disk_of c.loop-command.session) d (MayHave first_rules reached.last c.command-item.result) (IsReachedBy first_rules image c.args.commands.now)
-    (may_reach first_rules (λ i. Holds g.D.Disk i c.loop-command.session) image c.args.commands.now (g.K.Sink.written c.args.out.now) c.loop-command.command-index
+    (may_reach first_rules (ReadsQuietly g.D.Disk (disk_of c.args.session) (disk_of c.loop-command.session)) (λ i. Holds g.D.Disk i c.loop-command.session) image c.args.commands.now (g.K.Sink.written c.args.out.now) c.loop-command.command-index
     (c.loop-command.number + 1) c.command-item.result (g.K.Sink.written c.loop-command.out) (g.K.Sink.written c.run_command.new.out) c.loop-command.all_done next reached)
     (c.in-Err.ensures.stops reached.last reached.of))
 
@@ -66,17 +68,19 @@ loop-command-preserved g c =
     ] in
     record {
       reached = λ image holds.
-          subst (Reached first_rules (λ i. Holds g.D.Disk i session) image (take (c.loop-command.command-index + 1) c.args.commands.now) given now) all
-          (reached_more first_rules (λ i. Holds g.D.Disk i c.loop-command.session) image c.args.commands.now given c.loop-command.command-index
+          subst (Reached first_rules (ReadsQuietly g.D.Disk (disk_of c.args.session) (disk_of session)) (λ i. Holds g.D.Disk i session) image (take (c.loop-command.command-index + 1) c.args.commands.now) given now) all
+          (reached_more first_rules (ReadsQuietly g.D.Disk (disk_of c.args.session) (disk_of c.loop-command.session)) (λ i. Holds g.D.Disk i c.loop-command.session) image c.args.commands.now given c.loop-command.command-index
           (c.loop-command.number + 1) c.command-item.result had now c.loop-command.all_done next (inv.reached image holds)
-          (λ i. Holds g.D.Disk i session) verdict c.in-Ok.ensures.makes c.in-Ok.ensures.line);
+          (ReadsQuietly g.D.Disk (disk_of c.args.session) (disk_of session)) (λ i. Holds g.D.Disk i session) verdict
+          (λ quiet none. reads_on g.D.Disk (disk_of c.args.session) (disk_of c.loop-command.session) (disk_of session) quiet
+          (reads_refused g.D.Disk verdict (disk_of c.loop-command.session) (disk_of session) c.in-Ok.ensures.quiet none)) c.in-Ok.ensures.makes c.in-Ok.ensures.line);
       stops = λ image holds.
           let reached = inv.reached image holds in
           goes_far g.D.Disk (disk_of c.args.session) (disk_of c.loop-command.session) (disk_of session) (IsReachedBy first_rules image c.args.commands.now)
           (inv.stops image holds)
           (weaker g.D.Disk (disk_of c.loop-command.session) (disk_of session) (MayHave first_rules reached.last c.command-item.result)
           (IsReachedBy first_rules image c.args.commands.now)
-          (may_reach first_rules (λ i. Holds g.D.Disk i c.loop-command.session) image c.args.commands.now given c.loop-command.command-index
+          (may_reach first_rules (ReadsQuietly g.D.Disk (disk_of c.args.session) (disk_of c.loop-command.session)) (λ i. Holds g.D.Disk i c.loop-command.session) image c.args.commands.now given c.loop-command.command-index
           (c.loop-command.number + 1) c.command-item.result had now c.loop-command.all_done next reached) (c.in-Ok.ensures.stops reached.last reached.of));
       ready = c.in-Ok.ensures.ready;
       number = ap (λ n. n + 1) inv.number;
@@ -88,8 +92,9 @@ loop-command-preserved g c =
 
 pub returns-clause-ran : goal.returns-clause-ran
 returns-clause-ran g c = λ image holds.
-    reached_all first_rules (λ i. Holds g.D.Disk i c.loop-command.session) image c.args.commands.now (g.K.Sink.written c.args.out.now) (g.K.Sink.written c.loop-command.out)
+    reached_all first_rules (ReadsQuietly g.D.Disk (disk_of c.args.session) (disk_of c.loop-command.session)) (ReadsQuietly g.D.Disk (disk_of c.args.session) c.close.result) (λ i. Holds g.D.Disk i c.loop-command.session) image c.args.commands.now (g.K.Sink.written c.args.out.now) (g.K.Sink.written c.loop-command.out)
     (left_on g.D.Disk c.close.result) c.loop-command.command-index c.loop-command.all_done (omega arith)
+    (λ quiet. subst (ReadsQuietly g.D.Disk (disk_of c.args.session)) (sym c.close.ensures) quiet)
     (λ i is. closed_each g.D.Disk i c.loop-command.session c.close.result c.close.ensures is) (c.loop-command.invariant.reached image holds)
 
 pub returns-clause-stops : goal.returns-clause-stops

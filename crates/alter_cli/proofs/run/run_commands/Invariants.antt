@@ -1,5 +1,5 @@
 use Rattle.std.proofs.Common.{◌≡◌, ◌≤◌, take}
-use Rattle.alter_disk.specs.Moments.{Leaves, Stays}
+use Rattle.alter_disk.specs.Moments.{Leaves, ReadsQuietly, Stays}
 use Rattle.plain_schema.specs.Image.{Image}
 use Rattle.alter_session.specs.Session.{Holds, IsReady, disk_of}
 use Rattle.alter_cli.specs.Ending.{WhereSinkTells}
@@ -14,7 +14,7 @@ use Rattle.alter_cli.proofs.run.run_commands.Given as goal
 abbrev pub invariant-loop-command : goal.invariant-loop-command
 invariant-loop-command g l = record {
   reached : (image : Image) → Holds g.D.Disk image l.fn.session
-      → Reached first_rules (λ i. Holds g.D.Disk i l.session) image (take l.command-index l.commands) (g.K.Sink.written l.fn.out) (g.K.Sink.written l.out) l.all_done;
+      → Reached first_rules (ReadsQuietly g.D.Disk (disk_of l.fn.session) (disk_of l.session)) (λ i. Holds g.D.Disk i l.session) image (take l.command-index l.commands) (g.K.Sink.written l.fn.out) (g.K.Sink.written l.out) l.all_done;
   stops : (image : Image) → Holds g.D.Disk image l.fn.session
       → Leaves g.D.Disk (disk_of l.fn.session) (disk_of l.session) (IsReachedBy first_rules image l.commands);
   ready : IsReady g.D.Disk l.session;
