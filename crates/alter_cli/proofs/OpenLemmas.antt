@@ -13,7 +13,7 @@ use Rattle.plain_schema.specs.Image.{Image}
 use Rattle.alter_session.specs.declared.open_error.OpenError.{OpenError}
 use Rattle.alter_session.specs.declared.open_error.OpenError.TheVariants as errors
 use Rattle.alter_session.specs.declared.session.Session.{Session}
-use Rattle.alter_session.specs.Opening.{HasCause, IsOpenedFrom, IsUnopened}
+use Rattle.alter_session.specs.Opening.{HasCause, IsOpenedFrom, IsUnopened, KeepsBytes}
 use Rattle.alter_session.specs.Serves.{Refuses, Serves}
 use Rattle.alter_session.specs.Session.{Holds, disk_of}
 use Rattle.alter_cli.specs.declared.file_code.FileCode.{FileCode}
@@ -85,6 +85,22 @@ module _ {D : Type 0} (disk : Ghosts D) where
       if_told told (λ f. Each (left_on disk (disk_of session)) (λ c. c ≡ recovered f))
       (λ f at. rest_each (recovered f) (disk_of session) (telling ∙ ap is_some at) (is f (same ∙ at)).rests)
 
+  -- the opening of the disk keeps every byte
+  pub keeps_first : (old mid : D) → OpensQuietly disk old mid → IfTold (disk.files old) (λ f. recovered f ≡ f → KeepsBytes disk f old mid)
+  keeps_first old mid opens =
+      if_told (disk.files old) (λ f. recovered f ≡ f → KeepsBytes disk f old mid)
+      (λ f told cold. record { read = opens.only.files ∙ told; stops = weaker disk old mid Nothing (λ c. c ≡ f) (λ c none. absurd none) opens.stops })
+
+  -- and so do calls behind it that keep every byte
+  pub keeps_open : (old mid new : D) → OpensQuietly disk old mid → ((f : Files) → disk.files mid ≡ Some f → recovered f ≡ f → KeepsBytes disk f mid new)
+      → IfTold (disk.files old) (λ f. recovered f ≡ f → KeepsBytes disk f old new)
+  keeps_open old mid new opens then_ =
+      if_told (disk.files old) (λ f. recovered f ≡ f → KeepsBytes disk f old new)
+      (λ f told cold. let kept = then_ f (opens.only.files ∙ told) cold in record {
+        read = kept.read;
+        stops = goes_far disk old mid new (λ c. c ≡ f) (weaker disk old mid Nothing (λ c. c ≡ f) (λ c none. absurd none) opens.stops) kept.stops;
+      })
+
   module _ (counts_now : (d : D) (t : ℕ) (c : Files) → t ≤ disk.moment d → disk.may_leave d c → disk.left_since d t c)
       (only_now : (d : D) (c : Files) → disk.left_since d (disk.moment d) c → disk.may_leave d c) where
     -- what a crash may leave now it could have left before some calls, or it has what these leave
@@ -129,14 +145,14 @@ module _ {D : Type 0} (disk : Ghosts D) where
     pub no_session_for : (old mid new : D) (cause : OpenError) → OpensQuietly disk old mid → is_some (disk.files new) ≡ is_some (disk.files mid)
         → ((f : Files) → disk.files mid ≡ Some f → IsUnopened disk f cause new)
         → ((f : Files) → disk.files mid ≡ Some f → Leaves disk mid new (λ c. standing c ≡ standing f)) → HasCause disk mid new cause
-        → ((f : Files) → disk.files mid ≡ Some f → recovered f ≡ f → disk.files new ≡ Some f)
+        → ((f : Files) → disk.files mid ≡ Some f → recovered f ≡ f → KeepsBytes disk f mid new)
         → NoSession first_rules (ReadFailed disk old new) (WriteFailed disk old new) (left_on disk old) (left_on disk new) (stop_of_error cause)
     no_session_for old mid new cause opens telling un run why kept = at cause un why
       where
         alike : IsLeftAlike first_rules (left_on disk old) (left_on disk new)
         alike =
             left_alike old new (stops_open old mid new opens run)
-            (if_told (disk.files old) (λ f. recovered f ≡ f → disk.files new ≡ Some f) (λ f told. kept f (opens.only.files ∙ told)))
+            (if_told (disk.files old) (λ f. recovered f ≡ f → disk.files new ≡ Some f) (λ f told cold. (kept f (opens.only.files ∙ told) cold).read))
 
         told_new : (f : Files) → disk.files old ≡ Some f → is_some (disk.files new) ≡ true
         told_new f told = telling ∙ ap is_some (opens.only.files ∙ told)

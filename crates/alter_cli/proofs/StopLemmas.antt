@@ -11,6 +11,8 @@ use Rattle.alter_cli.specs.Outcome.{IsOfRun}
 use Rattle.alter_cli.specs.Rules.{Rules}
 use Rattle.alter_cli.specs.Stops.{IsReachedBy, OpensOf, StoppedAt}
 use Rattle.alter_disk.proofs.Moments.{goes_far, started, weaker}
+use Rattle.alter_session.specs.Opening.{KeepsBytes}
+use Rattle.alter_cli.proofs.OpenLemmas.{if_told}
 use Rattle.alter_cli.proofs.PerformLemmas.{Commands_read, Run_left}
 
 module _ {Image Command : Type 0} (rules : Rules Image Command) where
@@ -33,18 +35,24 @@ module _ {Image Command : Type 0} (rules : Rules Image Command) where
       (tt, λ image of. stopped_wider Read Write Read_all Write_all Sunk Quiet image commands given after now stop read write (is.1 image of))
 
   -- files that open to no image that is served were not opened
-  pub unwritten_opened : (files after : Option Files) (IsOf : Image → Type 0) → IfTold files (OpensOf rules IsOf)
-      → IfTold files (λ f. rules.recovered f ≡ f → ((image : Image) → rules.Serves f image → ⊥) → after ≡ Some f)
-  unwritten_opened None after IsOf is = tt
-  unwritten_opened (Some f) after IsOf is = λ cold none. absurd (none is.image is.serves)
+  pub unwritten_opened : (files : Option Files) (Keeps : Files → Type 0) (IsOf : Image → Type 0) → IfTold files (OpensOf rules IsOf)
+      → IfTold files (λ f. rules.recovered f ≡ f → ((image : Image) → rules.Serves f image → ⊥) → Keeps f)
+  unwritten_opened None Keeps IsOf is = tt
+  unwritten_opened (Some f) Keeps IsOf is = λ cold none. absurd (none is.image is.serves)
 
   -- files that a recovery leaves as they are were not written
-  pub unwritten_cold : (files after : Option Files) → IfTold files (λ f. rules.recovered f ≡ f → after ≡ Some f)
-      → IfTold files (λ f. rules.recovered f ≡ f → ((image : Image) → rules.Serves f image → ⊥) → after ≡ Some f)
-  unwritten_cold None after is = tt
-  unwritten_cold (Some f) after is = λ cold none. is cold
+  pub unwritten_cold : (files : Option Files) (Keeps : Files → Type 0) → IfTold files (λ f. rules.recovered f ≡ f → Keeps f)
+      → IfTold files (λ f. rules.recovered f ≡ f → ((image : Image) → rules.Serves f image → ⊥) → Keeps f)
+  unwritten_cold None Keeps is = tt
+  unwritten_cold (Some f) Keeps is = λ cold none. is cold
 
   module _ {D : Type 0} (disk : Ghosts D) where
+    -- nothing was called, and every byte is kept
+    pub unwritten_none : (d : D) → IfTold (disk.files d) (λ f. rules.recovered f ≡ f → ((image : Image) → rules.Serves f image → ⊥) → KeepsBytes disk f d d)
+    unwritten_none d =
+        if_told (disk.files d) (λ f. rules.recovered f ≡ f → ((image : Image) → rules.Serves f image → ⊥) → KeepsBytes disk f d d)
+        (λ f told cold none. record { read = told; stops = started disk d (λ c. c ≡ f) })
+
     -- nothing was called
     pub stopped_none : (text : Option (List ℕ)) (files : Option Files) (d : D)
         → IfTold text (λ t. IfTold files (λ f. Leaves disk d d (λ c. rules.Alike f c ⊎ IsOfRun rules t f c)))

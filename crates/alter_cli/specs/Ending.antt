@@ -8,6 +8,7 @@ use Rattle.alter_disk.specs.Outside.{AnyRose, NoneFell, Span, rises}
 use Rattle.alter_cli.specs.declared.status.Status.{Status}
 use Rattle.alter_cli.specs.declared.status.Status.TheVariants.{Fault, File, Script, Usage}
 use Rattle.alter_cli.specs.Causes.{CanRun, Completes, IsExactly, IsFileRefused, IsFrontTaken, IsUnserved}
+use Rattle.alter_session.specs.Opening.{KeepsBytes}
 use Rattle.alter_cli.specs.Left.{left_on}
 use Rattle.alter_cli.specs.Outcome.{IsOfRun, IsRunStatus, Misused, Performed, Printed, file_of}
 use Rattle.alter_cli.specs.Rules.{Rules}
@@ -53,10 +54,11 @@ module _ {Image Command : Type 0} (rules : Rules Image Command) {D : Type 0} (di
   EndsStopped span = IfTold span.before.left (λ text. IfTold (disk.files old) (λ files.
       Leaves disk old new (λ c. rules.Alike files c ⊎ IsOfRun rules text files c)))
 
-  -- where the disk tells: files that open to no image that is served, and that a recovery leaves as they are, keep every byte
+  -- where the disk tells: files that open to no image that is served, and that a recovery leaves as they are, keep every byte, at
+  -- each moment of the call
   abbrev pub EndsUnwritten : Type 0
   EndsUnwritten = IfTold (disk.files old) (λ files.
-      (rules.recovered files ≡ files) → ((image : Image) → rules.Serves files image → ⊥) → disk.files new ≡ Some files)
+      (rules.recovered files ≡ files) → ((image : Image) → rules.Serves files image → ⊥) → KeepsBytes disk files old new)
 
 module _ {Image Command : Type 0} (rules : Rules Image Command) {D : Type 0} (disk : Ghosts D) (old new : D) (span : Span) (status : Status) where
   -- where source, disk and sink tell: the lines, the status and both files

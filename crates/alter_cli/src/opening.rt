@@ -5,6 +5,7 @@ ghost use Rattle.alter_disk.specs.Moments.{Leaves};
 ghost use Rattle.alter_disk.specs.Uses.{ReadFailed, WriteFailed};
 ghost use Rattle.rollback_journal.specs.Recovery.{recovered};
 ghost use Rattle.rollback_journal.specs.Standing.{standing};
+ghost use Rattle.alter_session.specs.Opening.{KeepsBytes};
 ghost use Rattle.alter_session.specs.Session.{Holds, IsReady, disk_of};
 ghost use Rattle.alter_cli.specs.First.{first_rules};
 ghost use Rattle.alter_cli.specs.Left.{Each, left_on};
@@ -72,7 +73,7 @@ pub fn open_session<D: Disk>(
     ensures stop { IfErr result (λ halted. NoSession first_rules (ReadFailed D.Disk disk halted.disk) (WriteFailed D.Disk disk halted.disk)
         (left_on D.Disk disk) (left_on D.Disk halted.disk) halted.stop) }
     ensures stops { IfTold (D.files disk) (λ files. Leaves D.Disk disk (disk_open result) (λ c. standing c ≡ standing files)) }
-    ensures unwritten { IfTold (D.files disk) (λ files. recovered files ≡ files → D.files (disk_open result) ≡ Some files) }
+    ensures unwritten { IfTold (D.files disk) (λ files. recovered files ≡ files → KeepsBytes D.Disk files disk (disk_open result)) }
     ensures stays { StaysOpen D.Disk disk (disk_open result) }
 {
     if let Err(stop) = open(&mut disk, name) {

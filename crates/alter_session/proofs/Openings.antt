@@ -21,11 +21,11 @@ use Rattle.plain_schema.specs.FirstForm.{IsFirstForm}
 use Rattle.plain_schema.specs.Image.{Image}
 use Rattle.plain_schema.specs.Served.{IsFormOf}
 use Rattle.alter_session.specs.Committing.{IsClean}
-use Rattle.alter_session.specs.Opening.{IsOpenable, IsOpenedFrom, IsShaped, IsUnopened, ShapesBytes, error_of_page}
+use Rattle.alter_session.specs.Opening.{IsOpenable, IsOpenedFrom, IsShaped, IsUnopened, KeepsBytes, ShapesBytes, error_of_page}
 use Rattle.alter_session.specs.Reading.{IsImageOf}
 use Rattle.alter_session.specs.Serves.{IsUnbuilt}
 use Rattle.alter_session.proofs.Images.{IsNew, new_pages}
-use Rattle.alter_session.proofs.Recoveries.{recovered_bytes, recovered_cold, recovered_stops, told_rest}
+use Rattle.alter_session.proofs.Recoveries.{keeps_read, recovered_bytes, recovered_cold, recovered_stops, told_rest}
 
 same_bytes : (a b : List ℕ) (s : Standing) → s ≡ Stands a → s ≡ Stands b → a ≡ b
 same_bytes a b s p q = by (sym p ∙ q)
@@ -76,6 +76,10 @@ module _ {D : Type 0} (disk : Ghosts D) (f : Files) (mid : D) (shape : FileShape
 
     pub opened_stops : (old : D) → Leaves disk old mid (λ c. standing c ≡ standing f) → Leaves disk old (disk_of new) (λ c. standing c ≡ standing f)
     opened_stops old first = goes_far disk old mid (disk_of new) (λ c. standing c ≡ standing f) first (recovered_stops disk f mid (disk_of new) is.rests quiet)
+
+    -- every byte is kept where nothing is recovered
+    pub opened_keeps : (old : D) → recovered f ≡ f → KeepsBytes disk f old mid → KeepsBytes disk f old (disk_of new)
+    opened_keeps old cold kept = keeps_read disk f old mid (disk_of new) kept (subst (λ g. AtRest disk g mid) cold is.rests) quiet
 
     -- what is not
     pub unbuilt : ((image : Image) (tables : List Table) → IsImageOf disk image made → IsFirstForm image tables → ⊥) → IsUnbuilt f

@@ -15,7 +15,7 @@ use Rattle.rollback_journal.proofs.Closing.{cold_shut, rests_stay, rest_stops}
 use Rattle.rollback_journal.proofs.Shut.{stands_cold}
 use Rattle.alter_session.specs.declared.open_error.OpenError.{OpenError}
 use Rattle.alter_session.specs.declared.open_error.OpenError.TheVariants.{Memory, Failed, Super, Short, Journal, Refused, Unbuilt}
-use Rattle.alter_session.specs.Opening.{IsUnopened, IsUnshaped, Nothing, error_of_recovery}
+use Rattle.alter_session.specs.Opening.{IsUnopened, IsUnshaped, KeepsBytes, Nothing, error_of_recovery}
 
 -- the journal that a recovery leaves is cold
 left_cold : (f : Files) (bytes : List ℕ) → standing f ≡ Stands bytes → heat_of (if is_hot (heat_of f.journal) then shut f.journal else f.journal) ≡ Cold
@@ -71,6 +71,17 @@ module _ {D : Type 0} (disk : Ghosts D) where
   -- no crash at all, and then some
   pub behind_durable : (old mid new : D) (P : Files → Type 0) → Leaves disk old mid Nothing → Leaves disk mid new P → Leaves disk old new P
   behind_durable old mid new P first then_ = goes_far disk old mid new P (weaker disk old mid Nothing P (λ c none. absurd none) first) then_
+
+  -- no crash at all keeps what is read
+  pub keeps_durable : (f : Files) (old mid : D) → disk.files old ≡ Some f → disk.files mid ≡ disk.files old → Leaves disk old mid Nothing → KeepsBytes disk f old mid
+  keeps_durable f old mid told same run = record { read = same ∙ told; stops = weaker disk old mid Nothing (λ c. c ≡ f) (λ c none. absurd none) run }
+
+  -- and so do reading calls on what is at rest
+  pub keeps_read : (f : Files) (old mid new : D) → KeepsBytes disk f old mid → AtRest disk f mid → ReadsQuietly disk mid new → KeepsBytes disk f old new
+  keeps_read f old mid new kept rests quiet = record {
+    read = quiet.only.files ∙ kept.read;
+    stops = goes_far disk old mid new (λ c. c ≡ f) kept.stops (weaker disk mid new (disk.may_leave mid) (λ c. c ≡ f) (rest_alike f mid rests) quiet.stops);
+  }
 
   -- what is left of files that are at rest as a recovery left them, which were only read then
   pub recovered_rests : (f : Files) (played : Bool) (d : D) → Recovered disk f played d → AtRest disk (recovered f) d

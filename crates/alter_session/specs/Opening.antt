@@ -3,7 +3,7 @@ use Rattle.std.specs.Prelude.{◌≡◌, ◌⊎◌, ℕ, List, length, take, Som
 use Rattle.alter_disk.specs.declared.disk.Disk.{Ghosts}
 use Rattle.alter_disk.specs.declared.way.Way.TheVariants.{Read, Write}
 use Rattle.alter_disk.specs.Files.{Files}
-use Rattle.alter_disk.specs.Moments.{AtRest}
+use Rattle.alter_disk.specs.Moments.{AtRest, Leaves}
 use Rattle.alter_disk.specs.Uses.{ReadFailed, WriteFailed}
 use Rattle.rollback_journal.specs.declared.fault.RecoverFault.{RecoverFault}
 use Rattle.rollback_journal.specs.declared.fault.RecoverFault.TheVariants as recoveries
@@ -26,6 +26,12 @@ use Rattle.plain_schema.specs.Served.{IsSoundShape}
 -- no files at all
 abbrev pub Nothing : Files → Type 0
 Nothing c = ⊥
+
+-- Calls that kept every byte of both files: they read so, and a crash at any moment left what it could have left before, or
+-- them as they read.
+pub record KeepsBytes {D : Type 0} (disk : Ghosts D) (f : Files) (old new : D) : Type 0 where
+  pub read : disk.files new ≡ Some f
+  pub stops : Leaves disk old new (λ c. c ≡ f)
 
 -- why a recovery failed, and why a page was not read
 abbrev pub error_of_recovery : RecoverFault → OpenError

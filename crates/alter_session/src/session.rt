@@ -8,7 +8,7 @@ ghost use Rattle.plain_schema.specs.Image.{Image};
 ghost use Rattle.plain_sql.specs.Script.{IsPlainCommand};
 ghost use Rattle.alter_session.specs.Applying.{Applied, HasLine, HasWay, IsAnswer, IsAnswered, IsQuiet, IsUndone, MayHave, ReadsUnlessDone, StaysReady, disk_behind};
 ghost use Rattle.alter_session.specs.Committing.{FailsBy};
-ghost use Rattle.alter_session.specs.Opening.{HasCause, IsOpenedFrom, IsUnopened, disk_after};
+ghost use Rattle.alter_session.specs.Opening.{HasCause, IsOpenedFrom, IsUnopened, KeepsBytes, disk_after};
 ghost use Rattle.alter_session.specs.Session.{Holds, IsReady, disk_of};
 
 use crate::answer::{Answer, Outcome};
@@ -43,7 +43,7 @@ impl<D: Disk> Session<D> {
 
         // A crash at any moment leaves files that stand for the same, and where nothing is to be recovered no byte changes.
         ensures stops { (f : Files) → D.files disk ≡ Some f → Leaves D.Disk disk (disk_after result) (λ c. standing c ≡ standing f) }
-        ensures kept { (f : Files) → D.files disk ≡ Some f → recovered f ≡ f → D.files (disk_after result) ≡ Some f }
+        ensures kept { (f : Files) → D.files disk ≡ Some f → recovered f ≡ f → KeepsBytes D.Disk f disk (disk_after result) }
 
         ensures stays { Stays D.Disk disk (disk_after result) }
         ensures cause { IfErr result (λ u. HasCause D.Disk disk u.disk u.cause) }

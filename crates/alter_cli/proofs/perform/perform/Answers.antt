@@ -5,6 +5,7 @@ use Rattle.alter_disk.specs.Outside.{Rises, rises, span}
 use Rattle.alter_disk.specs.Uses.{ReadFailed, WriteFailed}
 use Rattle.plain_sql.specs.declared.script.Command.{Command}
 use Rattle.plain_schema.specs.Image.{Image}
+use Rattle.alter_session.specs.Opening.{KeepsBytes}
 use Rattle.alter_session.specs.Session.{Holds, disk_of}
 use Rattle.alter_cli.specs.First.{first_rules}
 use Rattle.alter_cli.specs.Left.{left_on}
@@ -12,7 +13,7 @@ use Rattle.alter_cli.specs.Stops.{CanRunTold, IsReachedBy}
 use Rattle.alter_cli.proofs.FirstRun.{still_kept}
 use Rattle.alter_cli.proofs.PerformLemmas.{Run_left, commands_ran, no_script, no_session}
 use Rattle.alter_cli.proofs.StatusLemmas.{can_run_told, err_cause, ok_able, session_cause}
-use Rattle.alter_cli.proofs.StopLemmas.{stopped_alike, stopped_none, stopped_run, unwritten_cold, unwritten_opened, wider}
+use Rattle.alter_cli.proofs.StopLemmas.{stopped_alike, stopped_none, stopped_run, unwritten_cold, unwritten_none, unwritten_opened, wider}
 use Rattle.alter_cli.proofs.perform.perform.Given.{Over}
 use Rattle.alter_cli.proofs.perform.perform.Goals as goal
 
@@ -24,6 +25,9 @@ returns-in-Err-clause-told g c =
 
 pub returns-in-Err-clause-stops : goal.returns-in-Err-clause-stops
 returns-in-Err-clause-stops g c = stopped_none first_rules g.D.Disk (g.S.Source.left c.args.script.now) (g.D.Disk.files c.args.disk) c.args.disk
+
+pub returns-in-Err-clause-unwritten : goal.returns-in-Err-clause-unwritten
+returns-in-Err-clause-unwritten g c = unwritten_none first_rules g.D.Disk c.args.disk
 
 -- what can be run
 can : (g : Over) (c : goal.After-drop-commands g) → CanRunTold first_rules (g.S.Source.left c.args.script.now) (g.D.Disk.files c.args.disk)
@@ -56,7 +60,7 @@ returns-in-Ok-open_session-clause-stops g c =
 
 pub returns-in-Ok-open_session-clause-unwritten : goal.returns-in-Ok-open_session-clause-unwritten
 returns-in-Ok-open_session-clause-unwritten g c =
-    unwritten_opened first_rules (g.D.Disk.files c.args.disk) (g.D.Disk.files c.run_commands.result.disk) (λ image. Holds g.D.Disk image c.in-Ok-open_session.session)
+    unwritten_opened first_rules (g.D.Disk.files c.args.disk) (λ f. KeepsBytes g.D.Disk f c.args.disk c.run_commands.result.disk) (λ image. Holds g.D.Disk image c.in-Ok-open_session.session)
     c.in-Ok-open_session.ensures.opened
 
 pub returns-clause-cause : goal.returns-clause-cause
@@ -73,7 +77,7 @@ returns-clause-stops g c =
 
 pub returns-clause-unwritten : goal.returns-clause-unwritten
 returns-clause-unwritten g c =
-    unwritten_cold first_rules (g.D.Disk.files c.args.disk) (g.D.Disk.files c.in-Err-open_session.field-0.disk) c.in-Err-open_session.ensures.unwritten
+    unwritten_cold first_rules (g.D.Disk.files c.args.disk) (λ f. KeepsBytes g.D.Disk f c.args.disk c.in-Err-open_session.field-0.disk) c.in-Err-open_session.ensures.unwritten
 
 pub returns-clause-told : goal.returns-clause-told
 returns-clause-told g c =

@@ -2,8 +2,8 @@ use Rattle.std.proofs.Common.{◌≡◌, ap, is_some, sym, subst, ◌∙◌}
 use Rattle.alter_disk.specs.Moments.{AtRest, Leaves}
 use Rattle.rollback_journal.specs.Recovery.{recovered}
 use Rattle.rollback_journal.specs.Standing.{standing}
-use Rattle.alter_session.specs.Opening.{IsUnopened, error_of_page}
-use Rattle.alter_session.proofs.Openings.{opened_from, opened_stops, rests_new, unbuilt, unread}
+use Rattle.alter_session.specs.Opening.{IsUnopened, KeepsBytes, error_of_page}
+use Rattle.alter_session.proofs.Openings.{opened_from, opened_keeps, opened_stops, rests_new, unbuilt, unread}
 use Rattle.alter_session.proofs.session.Session.open.Goals as goal
 
 pub returns-in-Ok-Some-clause-opened : goal.returns-in-Ok-Some-clause-opened
@@ -44,3 +44,20 @@ returns-in-Err-read_form-clause-stops g c = λ f told.
     subst (λ d. Leaves g.D.Disk c.args.disk d (λ c. standing c ≡ standing f)) (sym c.into_disk-in-Err-read_form.ensures)
     (opened_stops g.D.Disk f c.open_shape.new.disk c.in-Ok.shape (c.open_shape.ensures.stays.telling ∙ ap is_some told) (c.in-Ok.ensures.shaped f told) c.in-Ok.ensures.sound
     c.new-pages.result c.read_form.new.pages c.new-pages.ensures c.read_form.ensures.stay c.args.disk (c.open_shape.ensures.stops f told))
+
+pub returns-in-Ok-Some-clause-kept : goal.returns-in-Ok-Some-clause-kept
+returns-in-Ok-Some-clause-kept g c = λ f told cold.
+    opened_keeps g.D.Disk f c.open_shape.new.disk c.in-Ok.shape (c.open_shape.ensures.stays.telling ∙ ap is_some told) (c.in-Ok.ensures.shaped f told) c.in-Ok.ensures.sound
+    c.new-pages.result c.read_form.new.pages c.new-pages.ensures c.read_form.ensures.stay c.args.disk cold (c.open_shape.ensures.kept f told cold)
+
+pub returns-in-Ok-None-clause-kept : goal.returns-in-Ok-None-clause-kept
+returns-in-Ok-None-clause-kept g c = λ f told cold.
+    subst (KeepsBytes g.D.Disk f c.args.disk) (sym c.into_disk.ensures)
+    (opened_keeps g.D.Disk f c.open_shape.new.disk c.in-Ok.shape (c.open_shape.ensures.stays.telling ∙ ap is_some told) (c.in-Ok.ensures.shaped f told) c.in-Ok.ensures.sound
+    c.new-pages.result c.read_form.new.pages c.new-pages.ensures c.read_form.ensures.stay c.args.disk cold (c.open_shape.ensures.kept f told cold))
+
+pub returns-in-Err-read_form-clause-kept : goal.returns-in-Err-read_form-clause-kept
+returns-in-Err-read_form-clause-kept g c = λ f told cold.
+    subst (KeepsBytes g.D.Disk f c.args.disk) (sym c.into_disk-in-Err-read_form.ensures)
+    (opened_keeps g.D.Disk f c.open_shape.new.disk c.in-Ok.shape (c.open_shape.ensures.stays.telling ∙ ap is_some told) (c.in-Ok.ensures.shaped f told) c.in-Ok.ensures.sound
+    c.new-pages.result c.read_form.new.pages c.new-pages.ensures c.read_form.ensures.stay c.args.disk cold (c.open_shape.ensures.kept f told cold))
