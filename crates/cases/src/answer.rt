@@ -17,6 +17,14 @@ pub enum Answer {
     NoName,
     /// The place of the first token that is too deep, if there is one.
     TooDeep(Option<usize>),
+    /// A tree spells all tokens of the text, so many.
+    Parsed(usize),
+    /// The tree that was read spells other tokens than the text has.
+    Differs,
+    /// The place of the first token that is too deep for a tree.
+    Depth(usize),
+    /// No tree spells all tokens of the text.
+    Syntax,
     /// The line is no case.
     NoSuchCase,
 }
@@ -30,6 +38,10 @@ impl fmt::Display for Answer {
             Answer::NoName => f.write_str("no-name"),
             Answer::TooDeep(Some(at)) => write!(f, "{at}"),
             Answer::TooDeep(None) => f.write_str("none"),
+            Answer::Parsed(count) => write!(f, "ok {count}"),
+            Answer::Differs => f.write_str("differs"),
+            Answer::Depth(at) => write!(f, "depth {at}"),
+            Answer::Syntax => f.write_str("syntax"),
             Answer::NoSuchCase => f.write_str("no such case"),
         }
     }

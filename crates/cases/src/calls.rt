@@ -6,6 +6,7 @@ ghost use Rattle.sql_token.specs.Token.{AreTokens};
 
 use crate::answer::Answer;
 use crate::field::{number, unescaped};
+use query_parse::{ParseError, parse_expr, parse_select};
 use sql_token::{Token, TokenError, TokenKind, name_of, tokens};
 use sql_tree::first_too_deep;
 use std::alloc::{AllocError, Global};
@@ -35,8 +36,43 @@ pub fn answer_to(alloc: Global, line: &[u8]) -> Result<Answer, AllocError> {
             text.as_slice(),
             list.as_slice(),
         )?)),
+        (b"expr", None) => expr(alloc, text.as_slice(), list.as_slice()),
+        (b"select", None) => select(alloc, text.as_slice(), list.as_slice()),
         (b"name", Some(place)) => name_at(alloc, text.as_slice(), list.as_slice(), place),
         _ => Ok(Answer::NoSuchCase),
+    }
+}
+
+/// What `parse_expr` gives.
+fn expr(alloc: Global, text: &[u8], list: &[Token]) -> Result<Answer, AllocError> {
+    match parse_expr(alloc, text, list) {
+        Ok(tree) => Ok(spelled(tree.flatten(alloc)?.as_slice(), list)),
+        Err(error) => unparsed(error),
+    }
+}
+
+/// What `parse_select` gives.
+fn select(alloc: Global, text: &[u8], list: &[Token]) -> Result<Answer, AllocError> {
+    match parse_select(alloc, text, list) {
+        Ok(tree) => Ok(spelled(tree.flatten(alloc)?.as_slice(), list)),
+        Err(error) => unparsed(error),
+    }
+}
+
+/// The answer to a tree that spells these tokens, where it was read of those.
+fn spelled(tokens: &[Token], list: &[Token]) -> Answer {
+    if tokens == list {
+        Answer::Parsed(tokens.len())
+    } else {
+        Answer::Differs
+    }
+}
+
+fn unparsed(error: ParseError) -> Result<Answer, AllocError> {
+    match error {
+        ParseError::Depth(at) => Ok(Answer::Depth(at)),
+        ParseError::Syntax => Ok(Answer::Syntax),
+        ParseError::Memory(fault) => Err(fault),
     }
 }
 

@@ -133,8 +133,7 @@ pub fn query<T: Trees>(
     ensures { GivesAt (T.left trees.now) read_query result cursor.old cursor.new }
 {
     let opening = cursor.sign(Mark::Opening)?;
-    let select = trees.select(alloc, cursor)?;
-    let inner = Boxed::new(alloc, select)?;
+    let inner = trees.select(alloc, cursor)?;
     let closing = cursor.sign(Mark::Closing)?;
     Ok(InParens {
         opening,

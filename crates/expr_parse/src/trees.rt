@@ -5,6 +5,7 @@ ghost use Rattle.expr_parse.specs.Given.{GivesAt, ReadsAt};
 
 use sql_expr::{Expr, Select, Sources};
 use sql_reader::{Cursor, ReadError};
+use sqlite_items::Boxed;
 use std::alloc::Global;
 
 /// Reads the trees that stand inside a tree. Each rule's function takes one, so that each is proved by itself.
@@ -21,7 +22,7 @@ pub trait Trees {
         ensures found { GivesAt (left self.now) (λ _ inner. inner.expr) result cursor.old cursor.new };
 
     /// A select.
-    fn select(&self, alloc: Global, cursor: &mut Cursor<'_>) -> Result<Select, ReadError>
+    fn select(&self, alloc: Global, cursor: &mut Cursor<'_>) -> Result<Boxed<Select>, ReadError>
         requires ready { ready self.now }
         ensures found { GivesAt (left self.now) (λ _ inner. inner.select) result cursor.old cursor.new };
 
@@ -43,7 +44,7 @@ pub struct Handed<E, S, F> {
 impl<E, S, F> Trees for Handed<E, S, F>
 where
     E: Fn(Global, &mut Cursor<'_>, usize) -> Result<Expr, ReadError>,
-    S: Fn(Global, &mut Cursor<'_>, usize) -> Result<Select, ReadError>,
+    S: Fn(Global, &mut Cursor<'_>, usize) -> Result<Boxed<Select>, ReadError>,
     F: Fn(Global, &mut Cursor<'_>, usize) -> Result<Sources, ReadError>,
 {
     ghost left = { λ handed. handed.left };
@@ -57,7 +58,7 @@ where
         (self.expr)(alloc, cursor, self.left)
     }
 
-    fn select(&self, alloc: Global, cursor: &mut Cursor<'_>) -> Result<Select, ReadError> {
+    fn select(&self, alloc: Global, cursor: &mut Cursor<'_>) -> Result<Boxed<Select>, ReadError> {
         (self.select)(alloc, cursor, self.left)
     }
 

@@ -1,12 +1,11 @@
-//! The functions of the rules of sources and selects, over functions that read the trees inside a tree.
+//! Reads a whole text as an expression or as a select: the one tree that spells it, or why there is none.
 #![tactic(auto)]
 
-mod items;
-mod joins;
-mod selects;
-mod sources;
-mod with_clause;
+mod error;
+mod nested;
+#[cfg(test)]
+mod tests;
+mod whole;
 
-pub use selects::{arm, compound_arms, opt_limit};
-pub use sources::sources_level;
-pub use with_clause::opt_with;
+pub use error::ParseError;
+pub use whole::{parse_expr, parse_select};
