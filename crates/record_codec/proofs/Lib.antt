@@ -1,0 +1,6 @@
+pub mod Fronts
+pub mod Left
+pub mod Only
+pub mod Shortest
+pub mod Sizes
+pub mod Writable

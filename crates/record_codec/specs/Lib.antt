@@ -1,0 +1,4 @@
+pub mod Faults
+pub mod Record
+pub mod Serial
+pub mod Written
