@@ -13,7 +13,7 @@ returns-in_err-whole_expr-clause-syntax c =
     let text = c.args.text.now in
     let tokens = c.args.tokens.now in
     let p = err_from_is_err_and c.from_residual-in_err-whole_expr.result c.from_residual-in_err-whole_expr.ensures.1 in
-    rw (p.1, p.2) (unread _ (read_at (sort_of text) (length tokens)).expr tokens c.in_err-whole_expr.field-0 ((tree : Expr) → SpellsExpr text tree tokens → ⊥)
+    rw (p.1, p.2) (unread Expr (read_at (sort_of text) (length tokens)).expr tokens c.in_err-whole_expr.field-0.0 ((tree : Expr) → SpellsExpr text tree tokens → ⊥)
     (λ none tree spells. none tree (expr_read text tokens tree spells)) c.in_err-whole_expr.ensures)
 
 pub returns-clause-found : goal.returns-clause-found
