@@ -56,8 +56,7 @@ pub fn opt_conflict(cursor: &mut Cursor<'_>) -> Result<Option<Conflict>, ReadErr
 }
 
 /// Two fixed words.
-#[tactic(auto)]
-fn two_words(
+pub fn two_words(
     cursor: &mut Cursor<'_>,
     first: Keyword,
     second: Keyword,
