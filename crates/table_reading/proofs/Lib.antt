@@ -1,0 +1,5 @@
+pub mod ColumnLaws
+pub mod ConflictLaws
+pub mod KeyLaws
+pub mod TableLaws
+pub mod WordLaws
