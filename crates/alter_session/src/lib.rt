@@ -11,6 +11,8 @@ mod opening;
 mod reading;
 mod reads;
 mod session;
+#[cfg(test)]
+mod tests;
 
 pub use answer::{Answer, Outcome};
 pub use open_error::{OpenError, Unopened};
