@@ -1,23 +1,24 @@
 -- The laws of what is read as columns.
-use Rattle.std.proofs.Common.{IfSome, List, None, Option, Some, [], inl, inr, refl, ℕ, ◌++◌, ◌∷◌, ◌≡◌, ◌⊎◌}
+use Rattle.std.proofs.Common.{IfSome, List, Option, [], inl, inr, refl, ℕ, ◌∷◌, ◌≡◌, ◌⊎◌}
 use Rattle.std.specs.List.{AllByRecursion}
 use Rattle.std.specs.Prelude.{codes}
 use Rattle.sql_token.specs.Fixed.{IsFixed, IsName, IsSign}
 use Rattle.sql_token.specs.Spelled.{flat, maybe, one}
 use Rattle.sql_token.specs.declared.token.Token.{Token}
 use Rattle.sql_expr.specs.Leaf.{AreFixed, IsNoneOf, IsSpelledWord, current_words}
-use Rattle.sql_expr.specs.Rules.{AreCommas, IsExprAt, UsualAt}
-use Rattle.sql_expr.specs.Tokens.{commas_tokens, next_item_tokens, token_pair_tokens}
+use Rattle.sql_expr.specs.Rules.{AreCommas, IsExprAt, IsInParens, UsualAt}
+use Rattle.sql_expr.specs.Tokens.{commas_tokens, in_parens_tokens, next_item_tokens, token_pair_tokens}
+use Rattle.sql_expr.specs.Tree.{expr_tokens}
 use Rattle.sql_expr.specs.declared.expr.Expr.{Expr}
 use Rattle.sql_expr.specs.declared.lists.Commas.{Commas}
+use Rattle.sql_expr.specs.declared.lists.InParens.{InParens}
 use Rattle.sql_expr.specs.declared.lists.NextItem.{NextItem}
 use Rattle.sql_expr.specs.declared.lists.TokenPair.{TokenPair}
 use Rattle.sql_reader.proofs.Choices.{choice_reads, many_reads, opt_reads}
 use Rattle.sql_reader.proofs.Forms.{begun_reads, formed_reads, lead_reads, ruled, variant_reads, widened_reads}
 use Rattle.sql_reader.proofs.Laws.{Fits, Reads, leaf_reads, seq_reads}
 use Rattle.sql_reader.proofs.Leaves.{both_fits, either_fits, name_fits, no_words_fit, none_of_fits, same_fits, sign_fits, str_fits, word_fits, words_fit}
-use Rattle.sql_reader.proofs.Turns.{TakesToken}
-use Rattle.sql_reader.specs.Looks.{sign, word}
+use Rattle.sql_reader.specs.Looks.{sign}
 use Rattle.sql_reader.specs.Sorts.{sort_of}
 use Rattle.sql_reader.specs.declared.sort.Mark.TheVariants.{Comma, Minus, Opening, Plus}
 use Rattle.sql_tree.specs.Keys.{as_key}
@@ -33,9 +34,8 @@ use Rattle.query_reading.proofs.TypeLaws.{opt_type_reads}
 use Rattle.query_reading.specs.Exprs.{Inner}
 use Rattle.table_reading.proofs.ConflictLaws.{opt_conflict_reads, references_reads}
 use Rattle.table_reading.proofs.WordLaws.{stored_reads}
-use Rattle.table_reading.specs.Columns.{column, column_cons, column_constraints, columns, cons_goes_on, cons_starts, default_name, default_value, generated_cons, more_columns, next_column, opt_generated, opt_storage, plain_cons, plain_default, read_column, read_column_cons, read_column_constraints, read_columns, read_default_value, read_generated_cons, read_more_columns, read_next_column, read_null_cons, read_opt_generated, read_opt_storage, read_plain_cons, read_plain_default, read_primary_key}
+use Rattle.table_reading.specs.Columns.{column, column_cons, column_constraints, columns, cons_goes_on, cons_starts, default_name, default_value, expr_parens, generated_cons, next_column, opt_generated, opt_storage, plain_cons, plain_default, read_column, read_column_cons, read_column_constraints, read_columns, read_default_value, read_expr_parens, read_generated_cons, read_more_columns, read_next_column, read_null_cons, read_opt_generated, read_opt_storage, read_plain_cons, read_plain_default, read_primary_key}
 use Rattle.table_reading.specs.Handed.{over}
-use Rattle.table_reading.specs.Words.{stored}
 use Rattle.sql_token.specs.declared.keyword.Keyword.TheVariants as K
 use Rattle.sql_token.specs.declared.token.TokenKind.TheVariants as Kind
 use Rattle.sql_tree.specs.declared.table.ColumnCons.TheVariants as ColumnCons'
@@ -183,16 +183,22 @@ module _ (text : List ℕ) {b : ℕ} where
       refl
 
 module _ {text : List ℕ} {b n m : ℕ} {inner twin : Inner} where
+  -- "(" expr ")"
+  pub expr_parens_reads : Given text b n m inner twin → Reads (sort_of text) (InParens Expr) (IsInParens text (IsExprAt text n)) (IsInParens text (IsExprAt text n)) (in_parens_tokens expr_tokens) b
+      (expr_parens (sort_of text) inner) (read_expr_parens (sort_of text) twin)
+  unfolding read_expr_parens
+  expr_parens_reads given =
+      let nested = given.nested in in_parens_reads nested.expr refl
+
   -- "(" expr ")" | name | ["+"|"-"] literal
   pub default_value_reads : Given text b n m inner twin → Reads (sort_of text) DefaultValue (IsDefaultValue text n) (IsDefaultValue text n) default_value_tokens b
-      (default_value (sort_of text) (over text n inner)) (read_default_value (sort_of text) (over text m twin))
+      (default_value (sort_of text) inner) (read_default_value (sort_of text) twin)
   unfolding read_default_value
   default_value_reads given =
-      let nested = given.nested in
       ruled
       (choice_reads
       (widened_reads {starts = (sign Opening ∷ []) ∷ []} {goes_on = []}
-      (variant_reads (in_parens_reads nested.expr refl) (λ v. refl) (λ v h. h)) refl refl)
+      (variant_reads (expr_parens_reads given) (λ v. refl) (λ v h. h)) refl refl)
       (ruled (plain_default_reads text) (plain_default_any text n) (λ x h. h))
       refl refl refl)
       (λ x h. h)
@@ -207,11 +213,10 @@ module _ {text : List ℕ} {b n m : ℕ} {inner twin : Inner} where
       (generated_cons (sort_of text) (over text n inner)) (read_generated_cons (sort_of text) (over text m twin))
   unfolding read_generated_cons
   generated_cons_reads given =
-      let nested = given.nested in
       ruled
       (variant_reads
       (seq_reads
-      (seq_reads (seq_reads (opt_generated_reads text) (leaf_reads (word_fits text K.As)) refl) (in_parens_reads nested.expr refl) refl)
+      (seq_reads (seq_reads (opt_generated_reads text) (leaf_reads (word_fits text K.As)) refl) (expr_parens_reads given) refl)
       (opt_storage_reads text) refl)
       (λ v. refl) (λ v h. (h.0.0.0, h.0.0.1, h.0.1, h.1)))
       (λ x h. h)
@@ -232,11 +237,10 @@ module _ {text : List ℕ} {b n m : ℕ} {inner twin : Inner} where
       (column_cons (sort_of text) (over text n inner)) (read_column_cons (sort_of text) (over text m twin))
   unfolding read_column_cons
   column_cons_reads given =
-      let nested = given.nested in
       widened_reads {starts = cons_starts} {goes_on = cons_goes_on}
       (ruled
       (choice_reads
-      (variant_reads (begun_reads (word_fits text K.Check) (in_parens_reads nested.expr refl)) (λ v. refl) (λ v h. h))
+      (variant_reads (begun_reads (word_fits text K.Check) (expr_parens_reads given)) (λ v. refl) (λ v h. h))
       (choice_reads
       (variant_reads (begun_reads (word_fits text K.Default) (default_value_reads given)) (λ v. refl) (λ v h. h))
       (choice_reads (ruled (generated_cons_reads given) (generated_any text n) (λ x h. h))

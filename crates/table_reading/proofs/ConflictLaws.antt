@@ -1,18 +1,16 @@
 -- The laws of what is read as conflict clauses and as the foreign keys of REFERENCES.
-use Rattle.std.proofs.Common.{IfSome, List, Option, [], inl, inr, refl, ℕ, ◌∷◌, ◌≡◌}
+use Rattle.std.proofs.Common.{IfSome, List, Option, [], inl, inr, refl, ℕ, ◌∷◌}
 use Rattle.std.specs.List.{AllByRecursion}
 use Rattle.sql_token.specs.Fixed.{IsFixed}
 use Rattle.sql_token.specs.Spelled.{flat, maybe}
-use Rattle.sql_token.specs.declared.token.Token.{Token}
 use Rattle.sql_expr.specs.Leaf.{IsOneOf}
 use Rattle.sql_expr.specs.Tokens.{token_pair_tokens}
 use Rattle.sql_expr.specs.declared.lists.TokenPair.{TokenPair}
 use Rattle.sql_reader.proofs.Choices.{choice_reads, many_reads, opt_reads}
 use Rattle.sql_reader.proofs.Forms.{begun_reads, formed_reads, lead_reads, ruled, variant_reads}
-use Rattle.sql_reader.proofs.Laws.{Fits, Reads, leaf_reads, seq_reads}
-use Rattle.sql_reader.proofs.Leaves.{name_fits, same_fits, word_fits, words_fit}
+use Rattle.sql_reader.proofs.Laws.{Reads, leaf_reads, seq_reads}
+use Rattle.sql_reader.proofs.Leaves.{name_fits, word_fits, words_fit}
 use Rattle.sql_reader.proofs.Turns.{TakesToken}
-use Rattle.sql_reader.specs.Looks.{words}
 use Rattle.sql_reader.specs.Sorts.{sort_of}
 use Rattle.sql_tree.specs.Rules.{IsConflict, IsDeferral, IsReferenceAction, IsReferenceClause, IsReferences, IsResolution}
 use Rattle.sql_tree.specs.Tokens.{conflict_tokens, deferral_tokens, reference_action_tokens, reference_clause_tokens, references_tokens, resolution_tokens}

@@ -1,11 +1,10 @@
 -- The laws of what is read as keys, constraints and options of tables, and as the texts of tables, indexes and views.
 use Rattle.std.proofs.Common.{IfSome, List, None, Option, Some, [], ap, inl, inr, length, refl, ℕ, ◌++◌, ◌∙◌, ◌∷◌, ◌≡◌, ◌≤◌}
-use Rattle.std.specs.List.{AllByRecursion}
 use Rattle.std.specs.Prelude.{codes}
-use Rattle.sql_token.specs.Fixed.{IsFixed, IsSign}
-use Rattle.sql_token.specs.Spelled.{flat, maybe, one}
+use Rattle.sql_token.specs.Fixed.{IsSign}
+use Rattle.sql_token.specs.Spelled.{maybe}
 use Rattle.sql_token.specs.declared.token.Token.{Token}
-use Rattle.sql_expr.specs.Rules.{AreCommas, IsExprAt, IsInParens, UsualAt}
+use Rattle.sql_expr.specs.Rules.{AreCommas, IsExprAt, IsInParens}
 use Rattle.sql_expr.specs.Tokens.{commas_tokens, in_parens_tokens, next_item_tokens}
 use Rattle.sql_expr.specs.Tree.{expr_tokens}
 use Rattle.sql_expr.specs.declared.expr.Expr.{Expr}
@@ -14,11 +13,10 @@ use Rattle.sql_expr.specs.declared.lists.InParens.{InParens}
 use Rattle.sql_expr.specs.declared.lists.NextItem.{NextItem}
 use Rattle.sql_reader.proofs.Choices.{choice_reads, many_reads, opt_reads}
 use Rattle.sql_reader.proofs.Forms.{begun_reads, formed_reads, lead_reads, leaf_before_reads, ruled, variant_reads, widened_reads}
-use Rattle.sql_reader.proofs.Laws.{Fits, Reads, leaf_reads, seq_reads}
+use Rattle.sql_reader.proofs.Laws.{Reads, leaf_reads, seq_reads}
 use Rattle.sql_reader.proofs.Leaves.{name_fits, sign_fits, word_fits, words_fit}
-use Rattle.sql_reader.proofs.Outcomes.{reach}
 use Rattle.sql_reader.proofs.Turns.{TakesToken}
-use Rattle.sql_reader.specs.Looks.{sign, word}
+use Rattle.sql_reader.specs.Looks.{word}
 use Rattle.sql_reader.specs.Reading.{formed, made_of}
 use Rattle.sql_reader.specs.Sorts.{sort_of}
 use Rattle.sql_reader.specs.declared.sort.Mark.TheVariants.{Closing, Comma, Opening}
@@ -40,13 +38,13 @@ use Rattle.query_reading.proofs.ListLaws.{in_parens_reads, next_item_reads, opt_
 use Rattle.query_reading.proofs.NameLaws.{names_reads, opt_names_reads}
 use Rattle.query_reading.proofs.WindowLaws.{opt_after_reads}
 use Rattle.query_reading.specs.Exprs.{Inner, expr}
-use Rattle.table_reading.proofs.ColumnLaws.{Given, columns_reads}
+use Rattle.table_reading.proofs.ColumnLaws.{Given, columns_reads, expr_parens_reads}
 use Rattle.table_reading.proofs.ConflictLaws.{opt_conflict_reads, references_reads}
 use Rattle.table_reading.proofs.WordLaws.{rowid_reads, spelled_takes, strict_reads}
 use Rattle.table_reading.specs.Columns.{cons_goes_on}
 use Rattle.table_reading.specs.Handed.{over}
 use Rattle.table_reading.specs.Words.{rowid, strict}
-use Rattle.table_reading.specs.Tables.{create_index, create_table, create_view, indexed, indexeds, key, key_parens, next_option, next_table_cons, opt_constraints, opt_if_not_exists, opt_options, read_create_index, read_create_table, read_create_view, read_foreign_cons, read_indexed, read_indexeds, read_key, read_key_parens, read_more_indexeds, read_more_options, read_more_table_cons, read_next_indexed, read_next_option, read_next_table_cons, read_opt_constraints, read_opt_if_not_exists, read_opt_options, read_primary_cons, read_table_body, read_table_cons, read_table_constraints, read_table_option, read_table_options, table_body, table_cons, table_cons_starts, table_constraints, table_option, table_options}
+use Rattle.table_reading.specs.Tables.{create_index, create_table, create_view, indexed, indexeds, key, key_parens, next_option, next_table_cons, opt_if_not_exists, opt_options, read_check_cons, read_create_index, read_create_table, read_create_view, read_foreign_cons, read_indexed, read_indexeds, read_key, read_key_parens, read_more_indexeds, read_more_options, read_more_table_cons, read_next_indexed, read_next_option, read_next_table_cons, read_opt_constraints, read_opt_if_not_exists, read_opt_options, read_primary_cons, read_table_body, read_table_cons, read_table_constraints, read_table_option, read_table_options, read_unique_cons, table_body, table_cons, table_cons_starts, table_constraints, table_option, table_options}
 use Rattle.sql_token.specs.declared.keyword.Keyword.TheVariants as K
 use Rattle.sql_tree.specs.declared.table.TableCons.TheVariants as TableCons'
 use Rattle.sql_tree.specs.declared.table.TableOption.TheVariants as TableOption'
@@ -152,7 +150,7 @@ module _ {text : List ℕ} {b n m : ℕ} {inner twin : Inner} where
 
   -- expr as a key: its one Str, where it stands alone, is a column
   pub key_reads : Given text b n m inner twin → Reads (sort_of text) Expr (IsKeyExpr text n) (IsKeyExpr text n) expr_tokens b
-      (key (sort_of text) (over text n inner)) (read_key (sort_of text) (over text m twin))
+      (key (sort_of text) n inner) (read_key (sort_of text) m twin)
   unfolding read_key
   key_reads given =
       let same = key_form_reads given in
@@ -166,7 +164,7 @@ module _ {text : List ℕ} {b n m : ℕ} {inner twin : Inner} where
 
   -- key [ASC|DESC]
   pub indexed_reads : Given text b n m inner twin → Reads (sort_of text) Indexed (IsKey text n) (IsKey text n) indexed_tokens b
-      (indexed (sort_of text) (over text n inner)) (read_indexed (sort_of text) (over text m twin))
+      (indexed (sort_of text) n inner) (read_indexed (sort_of text) m twin)
   unfolding read_indexed
   indexed_reads given =
       formed_reads (seq_reads (key_reads given) (opt_leaf_reads text (words_fit text (K.Asc ∷ K.Desc ∷ []))) refl)
@@ -174,7 +172,7 @@ module _ {text : List ℕ} {b n m : ℕ} {inner twin : Inner} where
 
   -- indexed {"," indexed}
   pub indexeds_reads : Given text b n m inner twin → Reads (sort_of text) (Commas Indexed) (AreCommas text (IsKey text n)) (AreCommas text (IsKey text n)) (commas_tokens indexed_tokens) b
-      (indexeds (sort_of text) (over text n inner)) (read_indexeds (sort_of text) (over text m twin))
+      (indexeds (sort_of text) n inner) (read_indexeds (sort_of text) m twin)
   unfolding read_indexeds read_more_indexeds read_next_indexed
   indexeds_reads given =
       formed_reads (seq_reads (indexed_reads given) (many_reads (next_item_reads (indexed_reads given)) refl refl) refl)
@@ -182,16 +180,15 @@ module _ {text : List ℕ} {b n m : ℕ} {inner twin : Inner} where
 
   -- "(" indexeds ")"
   pub key_parens_reads : Given text b n m inner twin → Reads (sort_of text) (InParens (Commas Indexed)) (IsInParens text (AreCommas text (IsKey text n))) (IsInParens text (AreCommas text (IsKey text n))) (in_parens_tokens (commas_tokens indexed_tokens)) b
-      (key_parens (sort_of text) (over text n inner)) (read_key_parens (sort_of text) (over text m twin))
+      (key_parens (sort_of text) n inner) (read_key_parens (sort_of text) m twin)
   unfolding read_key_parens
   key_parens_reads given = in_parens_reads (indexeds_reads given) refl
 
   -- CONSTRAINT name | PRIMARY KEY .. | UNIQUE "(" indexeds ")" [conflict] | CHECK "(" expr ")" [conflict] | FOREIGN KEY ..
   pub table_cons_reads : Given text b n m inner twin → Reads (sort_of text) TableCons (IsTableCons text n) (IsTableCons text n) table_cons_tokens b
-      (table_cons (sort_of text) (over text n inner)) (read_table_cons (sort_of text) (over text m twin))
-  unfolding read_table_cons read_primary_cons read_foreign_cons
+      (table_cons (sort_of text) n inner) (read_table_cons (sort_of text) m twin)
+  unfolding read_table_cons read_primary_cons read_unique_cons read_check_cons read_foreign_cons
   table_cons_reads given =
-      let nested = given.nested in
       widened_reads {starts = table_cons_starts} {goes_on = cons_goes_on}
       (ruled
       (choice_reads
@@ -211,7 +208,7 @@ module _ {text : List ℕ} {b n m : ℕ} {inner twin : Inner} where
       (variant_reads (seq_reads (begun_reads (word_fits text K.Unique) (key_parens_reads given)) (opt_conflict_reads text) refl) (λ v. refl)
       (λ v h. (h.0.0, h.0.1, h.1)))
       (choice_reads
-      (variant_reads (seq_reads (begun_reads (word_fits text K.Check) (in_parens_reads nested.expr refl)) (opt_conflict_reads text) refl)
+      (variant_reads (seq_reads (begun_reads (word_fits text K.Check) (expr_parens_reads given)) (opt_conflict_reads text) refl)
       (λ v. refl) (λ v h. (h.0.0, h.0.1, h.1)))
       (variant_reads
       (seq_reads (seq_reads (begun_reads (word_fits text K.Foreign) (leaf_reads (word_fits text K.Key))) (names_reads text) refl)
@@ -236,7 +233,7 @@ module _ {text : List ℕ} {b n m : ℕ} {inner twin : Inner} where
 
   -- [","] table-cons
   pub next_table_cons_reads : Given text b n m inner twin → Reads (sort_of text) NextTableCons (IsNextCons text n) (IsNextCons text n) next_table_cons_tokens b
-      (next_table_cons (sort_of text) (over text n inner)) (read_next_table_cons (sort_of text) (over text m twin))
+      (next_table_cons (sort_of text) n inner) (read_next_table_cons (sort_of text) m twin)
   unfolding read_next_table_cons
   next_table_cons_reads given =
       formed_reads (seq_reads (opt_leaf_reads text (sign_fits text Comma 44 refl refl)) (table_cons_reads given) refl)
@@ -244,7 +241,7 @@ module _ {text : List ℕ} {b n m : ℕ} {inner twin : Inner} where
 
   -- "," table-cons {[","] table-cons}
   pub table_constraints_reads : Given text b n m inner twin → Reads (sort_of text) TableConstraints (AreTableConstraints text n) (AreTableConstraints text n) table_constraints_tokens b
-      (table_constraints (sort_of text) (over text n inner)) (read_table_constraints (sort_of text) (over text m twin))
+      (table_constraints (sort_of text) n inner) (read_table_constraints (sort_of text) m twin)
   unfolding read_table_constraints read_more_table_cons
   table_constraints_reads given =
       formed_reads
@@ -288,7 +285,7 @@ module _ {text : List ℕ} {b n m : ℕ} {inner twin : Inner} where
 
   -- CREATE [UNIQUE] INDEX [IF NOT EXISTS] name ON name "(" indexeds ")" [WHERE expr]
   pub create_index_reads : Given text b n m inner twin → Reads (sort_of text) CreateIndex (IsCreateIndex text n) (IsCreateIndex text n) create_index_tokens b
-      (create_index (sort_of text) (over text n inner)) (read_create_index (sort_of text) (over text m twin))
+      (create_index (sort_of text) n inner) (read_create_index (sort_of text) m twin)
   unfolding read_create_index
   create_index_reads given =
       let nested = given.nested in
@@ -318,7 +315,7 @@ module _ {text : List ℕ} {b n m : ℕ} {inner twin : Inner} where
 
   -- CREATE VIEW [IF NOT EXISTS] name ["(" names ")"] AS select
   pub create_view_reads : Given text b n m inner twin → Reads (sort_of text) CreateView (IsCreateView text n) (IsCreateView text n) create_view_tokens b
-      (create_view (sort_of text) (over text n inner)) (read_create_view (sort_of text) (over text m twin))
+      (create_view (sort_of text) inner) (read_create_view (sort_of text) twin)
   unfolding read_create_view
   create_view_reads given =
       let nested = given.nested in

@@ -1,5 +1,5 @@
 -- The laws of what is read as a word that is fixed only where a rule names it.
-use Rattle.std.proofs.Common.{List, None, Option, Some, [], ap, arith, false, inl, length, refl, subst, sym, true, ℕ, ◌&&◌, ◌∙◌, ◌∷◌, ◌≡◌}
+use Rattle.std.proofs.Common.{List, None, Some, [], ap, arith, false, inl, length, refl, subst, sym, true, ℕ, ◌&&◌, ◌∙◌, ◌∷◌, ◌≡◌}
 use Rattle.std.proofs.lemmas.Bool.{and_from, and_parts, cond-true, or_left}
 use Rattle.std.specs.Cmp.Lexicographic.{bytes_decides}
 use Rattle.std.specs.Str.{str_eq_ignore_ascii_case}

@@ -1,7 +1,9 @@
 -- What is read as columns.
 use Rattle.std.specs.Prelude.{List, Option, [], ◌∷◌, ℕ}
 use Rattle.sql_token.specs.declared.token.Token.{Token}
+use Rattle.sql_expr.specs.declared.expr.Expr.{Expr}
 use Rattle.sql_expr.specs.declared.lists.Commas.{Commas}
+use Rattle.sql_expr.specs.declared.lists.InParens.{InParens}
 use Rattle.sql_expr.specs.declared.lists.NextItem.{NextItem}
 use Rattle.sql_expr.specs.declared.lists.TokenPair.{TokenPair}
 use Rattle.sql_tree.specs.declared.table.Column.{Column}
@@ -12,7 +14,7 @@ use Rattle.sql_reader.specs.Reading.{Read, Reading, begun, choice, formed, lead,
 use Rattle.sql_reader.specs.declared.sort.Mark.TheVariants.{Closing, Comma, Minus, Opening, Plus}
 use Rattle.sql_reader.specs.declared.sort.Sort.{Sort}
 use Rattle.sql_reader.specs.declared.sort.Sort.TheVariants.{End, Plain, Str}
-use Rattle.query_reading.specs.Exprs.{dot_or_opening, expr}
+use Rattle.query_reading.specs.Exprs.{Inner, dot_or_opening, expr}
 use Rattle.query_reading.specs.Lists.{in_parens, maybe_not, opt_leaf, pair}
 use Rattle.query_reading.specs.Operators.{literal}
 use Rattle.query_reading.specs.Types.{opt_type}
@@ -40,17 +42,27 @@ read_plain_default sort = (plain_default_form sort).read
 abbrev pub plain_default : (sort : Token → Sort) → Reading sort DefaultValue
 plain_default sort = sealed (plain_default_form sort) (read_plain_default sort)
 
+-- "(" expr ")"
+abbrev expr_parens_form : (sort : Token → Sort) → Inner → Reading sort (InParens Expr)
+expr_parens_form sort inner = in_parens (expr inner)
+
+unfoldable pub read_expr_parens : (Token → Sort) → Inner → Read (InParens Expr)
+read_expr_parens sort inner = (expr_parens_form sort inner).read
+
+abbrev pub expr_parens : (sort : Token → Sort) → Inner → Reading sort (InParens Expr)
+expr_parens sort inner = sealed (expr_parens_form sort inner) (read_expr_parens sort inner)
+
 -- "(" expr ")" | name | ["+"|"-"] literal
-abbrev default_value_form : (sort : Token → Sort) → Outer → Reading sort DefaultValue
-default_value_form sort outer =
-    choice (widened ((sign Opening ∷ []) ∷ []) [] (formed (λ v. DefaultValue'.Expr v) (in_parens (expr outer.inner))))
+abbrev default_value_form : (sort : Token → Sort) → Inner → Reading sort DefaultValue
+default_value_form sort inner =
+    choice (widened ((sign Opening ∷ []) ∷ []) [] (formed (λ v. DefaultValue'.Expr v) (expr_parens sort inner)))
     (plain_default sort)
 
-unfoldable pub read_default_value : (Token → Sort) → Outer → Read DefaultValue
-read_default_value sort outer = (default_value_form sort outer).read
+unfoldable pub read_default_value : (Token → Sort) → Inner → Read DefaultValue
+read_default_value sort inner = (default_value_form sort inner).read
 
-abbrev pub default_value : (sort : Token → Sort) → Outer → Reading sort DefaultValue
-default_value sort outer = sealed (default_value_form sort outer) (read_default_value sort outer)
+abbrev pub default_value : (sort : Token → Sort) → Inner → Reading sort DefaultValue
+default_value sort inner = sealed (default_value_form sort inner) (read_default_value sort inner)
 
 -- PRIMARY KEY [ASC|DESC] [conflict] [AUTOINCREMENT]
 abbrev primary_key_form : (sort : Token → Sort) → Reading sort ColumnCons
@@ -116,7 +128,7 @@ opt_storage text sort = sealed (opt_storage_form text sort) (read_opt_storage te
 abbrev generated_cons_form : (sort : Token → Sort) → Outer → Reading sort ColumnCons
 generated_cons_form sort outer =
     formed (λ v. ColumnCons'.Generated v.0.0.0 v.0.0.1 v.0.1 v.1)
-    (seq (seq (seq (opt_generated sort) (leaf (word K.As))) (in_parens (expr outer.inner))) (opt_storage outer.text sort))
+    (seq (seq (seq (opt_generated sort) (leaf (word K.As))) (expr_parens sort outer.inner)) (opt_storage outer.text sort))
 
 unfoldable pub read_generated_cons : (Token → Sort) → Outer → Read ColumnCons
 read_generated_cons sort outer = (generated_cons_form sort outer).read
@@ -145,8 +157,8 @@ cons_goes_on =
 abbrev column_cons_form : (sort : Token → Sort) → Outer → Reading sort ColumnCons
 column_cons_form sort outer =
     widened cons_starts cons_goes_on
-    (choice (formed (λ v. ColumnCons'.Check v.0 v.1) (begun (word K.Check) (in_parens (expr outer.inner))))
-    (choice (formed (λ v. ColumnCons'.Default v.0 v.1) (begun (word K.Default) (default_value sort outer)))
+    (choice (formed (λ v. ColumnCons'.Check v.0 v.1) (begun (word K.Check) (expr_parens sort outer.inner)))
+    (choice (formed (λ v. ColumnCons'.Default v.0 v.1) (begun (word K.Default) (default_value sort outer.inner)))
     (choice (generated_cons sort outer) (plain_cons sort))))
 
 unfoldable pub read_column_cons : (Token → Sort) → Outer → Read ColumnCons

@@ -21,11 +21,11 @@ use Rattle.sql_reader.specs.Looks.{Look, name, sign, word, words}
 use Rattle.sql_reader.specs.Reading.{Read, Reading, begun, choice, formed, lead, leaf, leaf_before, many, opt, sealed, seq, widened}
 use Rattle.sql_reader.specs.declared.sort.Mark.TheVariants.{Closing, Comma, Opening}
 use Rattle.sql_reader.specs.declared.sort.Sort.{Sort}
-use Rattle.query_reading.specs.Exprs.{expr, select}
+use Rattle.query_reading.specs.Exprs.{Inner, expr, select}
 use Rattle.query_reading.specs.Lists.{in_parens, next_item, opt_leaf}
 use Rattle.query_reading.specs.Names.{names, opt_names}
 use Rattle.query_reading.specs.Windows.{opt_after}
-use Rattle.table_reading.specs.Columns.{columns, cons_goes_on}
+use Rattle.table_reading.specs.Columns.{columns, cons_goes_on, expr_parens}
 use Rattle.table_reading.specs.Conflicts.{opt_conflict, references}
 use Rattle.table_reading.specs.Handed.{Outer}
 use Rattle.table_reading.specs.Words.{rowid, spelled, strict}
@@ -34,84 +34,106 @@ use Rattle.sql_tree.specs.declared.table.TableCons.TheVariants as TableCons'
 use Rattle.sql_tree.specs.declared.table.TableOption.TheVariants as TableOption'
 
 -- expr as a key: its one Str, where it stands alone, is a column
-abbrev key_form : (sort : Token → Sort) → Outer → Reading sort Expr
-key_form sort outer =
-    formed (λ x. as_key outer.height x) (expr outer.inner)
+abbrev key_form : (sort : Token → Sort) → ℕ → Inner → Reading sort Expr
+key_form sort height inner =
+    formed (λ x. as_key height x) (expr inner)
 
-unfoldable pub read_key : (Token → Sort) → Outer → Read Expr
-read_key sort outer = (key_form sort outer).read
+unfoldable pub read_key : (Token → Sort) → ℕ → Inner → Read Expr
+read_key sort height inner = (key_form sort height inner).read
 
-abbrev pub key : (sort : Token → Sort) → Outer → Reading sort Expr
-key sort outer = sealed (key_form sort outer) (read_key sort outer)
+abbrev pub key : (sort : Token → Sort) → ℕ → Inner → Reading sort Expr
+key sort height inner = sealed (key_form sort height inner) (read_key sort height inner)
 
 -- key [ASC|DESC]
-abbrev indexed_form : (sort : Token → Sort) → Outer → Reading sort Indexed
-indexed_form sort outer =
-    formed (λ v. record { expr = v.0; direction = v.1 }) (seq (key sort outer) (opt_leaf sort (words (K.Asc ∷ K.Desc ∷ []))))
+abbrev indexed_form : (sort : Token → Sort) → ℕ → Inner → Reading sort Indexed
+indexed_form sort height inner =
+    formed (λ v. record { expr = v.0; direction = v.1 }) (seq (key sort height inner) (opt_leaf sort (words (K.Asc ∷ K.Desc ∷ []))))
 
-unfoldable pub read_indexed : (Token → Sort) → Outer → Read Indexed
-read_indexed sort outer = (indexed_form sort outer).read
+unfoldable pub read_indexed : (Token → Sort) → ℕ → Inner → Read Indexed
+read_indexed sort height inner = (indexed_form sort height inner).read
 
-abbrev pub indexed : (sort : Token → Sort) → Outer → Reading sort Indexed
-indexed sort outer = sealed (indexed_form sort outer) (read_indexed sort outer)
+abbrev pub indexed : (sort : Token → Sort) → ℕ → Inner → Reading sort Indexed
+indexed sort height inner = sealed (indexed_form sort height inner) (read_indexed sort height inner)
 
 -- "," indexed
-abbrev next_indexed_form : (sort : Token → Sort) → Outer → Reading sort (NextItem Indexed)
-next_indexed_form sort outer = next_item (indexed sort outer)
+abbrev next_indexed_form : (sort : Token → Sort) → ℕ → Inner → Reading sort (NextItem Indexed)
+next_indexed_form sort height inner = next_item (indexed sort height inner)
 
-unfoldable pub read_next_indexed : (Token → Sort) → Outer → Read (NextItem Indexed)
-read_next_indexed sort outer = (next_indexed_form sort outer).read
+unfoldable pub read_next_indexed : (Token → Sort) → ℕ → Inner → Read (NextItem Indexed)
+read_next_indexed sort height inner = (next_indexed_form sort height inner).read
 
-abbrev pub next_indexed : (sort : Token → Sort) → Outer → Reading sort (NextItem Indexed)
-next_indexed sort outer = sealed (next_indexed_form sort outer) (read_next_indexed sort outer)
+abbrev pub next_indexed : (sort : Token → Sort) → ℕ → Inner → Reading sort (NextItem Indexed)
+next_indexed sort height inner = sealed (next_indexed_form sort height inner) (read_next_indexed sort height inner)
 
 -- {"," indexed}
-abbrev more_indexeds_form : (sort : Token → Sort) → Outer → Reading sort (List (NextItem Indexed))
-more_indexeds_form sort outer = many (next_indexed sort outer)
+abbrev more_indexeds_form : (sort : Token → Sort) → ℕ → Inner → Reading sort (List (NextItem Indexed))
+more_indexeds_form sort height inner = many (next_indexed sort height inner)
 
-unfoldable pub read_more_indexeds : (Token → Sort) → Outer → Read (List (NextItem Indexed))
-read_more_indexeds sort outer = (more_indexeds_form sort outer).read
+unfoldable pub read_more_indexeds : (Token → Sort) → ℕ → Inner → Read (List (NextItem Indexed))
+read_more_indexeds sort height inner = (more_indexeds_form sort height inner).read
 
-abbrev pub more_indexeds : (sort : Token → Sort) → Outer → Reading sort (List (NextItem Indexed))
-more_indexeds sort outer = sealed (more_indexeds_form sort outer) (read_more_indexeds sort outer)
+abbrev pub more_indexeds : (sort : Token → Sort) → ℕ → Inner → Reading sort (List (NextItem Indexed))
+more_indexeds sort height inner = sealed (more_indexeds_form sort height inner) (read_more_indexeds sort height inner)
 
 -- indexed {"," indexed}
-abbrev indexeds_form : (sort : Token → Sort) → Outer → Reading sort (Commas Indexed)
-indexeds_form sort outer =
-    formed (λ v. record { first = v.0; more = v.1 }) (seq (indexed sort outer) (more_indexeds sort outer))
+abbrev indexeds_form : (sort : Token → Sort) → ℕ → Inner → Reading sort (Commas Indexed)
+indexeds_form sort height inner =
+    formed (λ v. record { first = v.0; more = v.1 }) (seq (indexed sort height inner) (more_indexeds sort height inner))
 
-unfoldable pub read_indexeds : (Token → Sort) → Outer → Read (Commas Indexed)
-read_indexeds sort outer = (indexeds_form sort outer).read
+unfoldable pub read_indexeds : (Token → Sort) → ℕ → Inner → Read (Commas Indexed)
+read_indexeds sort height inner = (indexeds_form sort height inner).read
 
-abbrev pub indexeds : (sort : Token → Sort) → Outer → Reading sort (Commas Indexed)
-indexeds sort outer = sealed (indexeds_form sort outer) (read_indexeds sort outer)
+abbrev pub indexeds : (sort : Token → Sort) → ℕ → Inner → Reading sort (Commas Indexed)
+indexeds sort height inner = sealed (indexeds_form sort height inner) (read_indexeds sort height inner)
 
 -- "(" indexeds ")"
-abbrev key_parens_form : (sort : Token → Sort) → Outer → Reading sort (InParens (Commas Indexed))
-key_parens_form sort outer = in_parens (indexeds sort outer)
+abbrev key_parens_form : (sort : Token → Sort) → ℕ → Inner → Reading sort (InParens (Commas Indexed))
+key_parens_form sort height inner = in_parens (indexeds sort height inner)
 
-unfoldable pub read_key_parens : (Token → Sort) → Outer → Read (InParens (Commas Indexed))
-read_key_parens sort outer = (key_parens_form sort outer).read
+unfoldable pub read_key_parens : (Token → Sort) → ℕ → Inner → Read (InParens (Commas Indexed))
+read_key_parens sort height inner = (key_parens_form sort height inner).read
 
-abbrev pub key_parens : (sort : Token → Sort) → Outer → Reading sort (InParens (Commas Indexed))
-key_parens sort outer = sealed (key_parens_form sort outer) (read_key_parens sort outer)
+abbrev pub key_parens : (sort : Token → Sort) → ℕ → Inner → Reading sort (InParens (Commas Indexed))
+key_parens sort height inner = sealed (key_parens_form sort height inner) (read_key_parens sort height inner)
 
 -- PRIMARY KEY "(" indexeds [AUTOINCREMENT] ")" [conflict]
-abbrev primary_cons_form : (sort : Token → Sort) → Outer → Reading sort TableCons
-primary_cons_form sort outer =
+abbrev primary_cons_form : (sort : Token → Sort) → ℕ → Inner → Reading sort TableCons
+primary_cons_form sort height inner =
     formed (λ v. TableCons'.PrimaryKey v.0.0.0.0.0 v.0.0.0.0.1.0 v.0.0.0.0.1.1 v.0.0.0.1 v.0.0.1 v.0.1 v.1)
     (seq
     (seq
-    (seq (seq (begun (word K.Primary) (begun (word K.Key) (leaf (sign Opening)))) (indexeds sort outer))
+    (seq (seq (begun (word K.Primary) (begun (word K.Key) (leaf (sign Opening)))) (indexeds sort height inner))
     (opt_leaf sort (word K.AutoIncrement)))
     (leaf (sign Closing)))
     (opt_conflict sort))
 
-unfoldable pub read_primary_cons : (Token → Sort) → Outer → Read TableCons
-read_primary_cons sort outer = (primary_cons_form sort outer).read
+unfoldable pub read_primary_cons : (Token → Sort) → ℕ → Inner → Read TableCons
+read_primary_cons sort height inner = (primary_cons_form sort height inner).read
 
-abbrev pub primary_cons : (sort : Token → Sort) → Outer → Reading sort TableCons
-primary_cons sort outer = sealed (primary_cons_form sort outer) (read_primary_cons sort outer)
+abbrev pub primary_cons : (sort : Token → Sort) → ℕ → Inner → Reading sort TableCons
+primary_cons sort height inner = sealed (primary_cons_form sort height inner) (read_primary_cons sort height inner)
+
+-- UNIQUE "(" indexeds ")" [conflict]
+abbrev unique_cons_form : (sort : Token → Sort) → ℕ → Inner → Reading sort TableCons
+unique_cons_form sort height inner =
+    formed (λ v. TableCons'.Unique v.0.0 v.0.1 v.1) (seq (begun (word K.Unique) (key_parens sort height inner)) (opt_conflict sort))
+
+unfoldable pub read_unique_cons : (Token → Sort) → ℕ → Inner → Read TableCons
+read_unique_cons sort height inner = (unique_cons_form sort height inner).read
+
+abbrev pub unique_cons : (sort : Token → Sort) → ℕ → Inner → Reading sort TableCons
+unique_cons sort height inner = sealed (unique_cons_form sort height inner) (read_unique_cons sort height inner)
+
+-- CHECK "(" expr ")" [conflict]
+abbrev check_cons_form : (sort : Token → Sort) → Inner → Reading sort TableCons
+check_cons_form sort inner =
+    formed (λ v. TableCons'.Check v.0.0 v.0.1 v.1) (seq (begun (word K.Check) (expr_parens sort inner)) (opt_conflict sort))
+
+unfoldable pub read_check_cons : (Token → Sort) → Inner → Read TableCons
+read_check_cons sort inner = (check_cons_form sort inner).read
+
+abbrev pub check_cons : (sort : Token → Sort) → Inner → Reading sort TableCons
+check_cons sort inner = sealed (check_cons_form sort inner) (read_check_cons sort inner)
 
 -- FOREIGN KEY "(" names ")" references
 abbrev foreign_cons_form : (sort : Token → Sort) → Reading sort TableCons
@@ -137,73 +159,72 @@ abbrev pub constraints_starts : Look
 constraints_starts = (sign Comma ∷ words table_cons_words ∷ []) ∷ []
 
 -- CONSTRAINT name | PRIMARY KEY .. | UNIQUE "(" indexeds ")" [conflict] | CHECK "(" expr ")" [conflict] | FOREIGN KEY ..
-abbrev table_cons_form : (sort : Token → Sort) → Outer → Reading sort TableCons
-table_cons_form sort outer =
+abbrev table_cons_form : (sort : Token → Sort) → ℕ → Inner → Reading sort TableCons
+table_cons_form sort height inner =
     widened table_cons_starts cons_goes_on
     (choice (formed (λ v. TableCons'.Constraint v.0 v.1) (begun (word K.Constraint) (leaf name)))
-    (choice (primary_cons sort outer)
-    (choice (formed (λ v. TableCons'.Unique v.0.0 v.0.1 v.1) (seq (begun (word K.Unique) (key_parens sort outer)) (opt_conflict sort)))
-    (choice
-    (formed (λ v. TableCons'.Check v.0.0 v.0.1 v.1) (seq (begun (word K.Check) (in_parens (expr outer.inner))) (opt_conflict sort)))
+    (choice (primary_cons sort height inner)
+    (choice (unique_cons sort height inner)
+    (choice (check_cons sort inner)
     (foreign_cons sort)))))
 
-unfoldable pub read_table_cons : (Token → Sort) → Outer → Read TableCons
-read_table_cons sort outer = (table_cons_form sort outer).read
+unfoldable pub read_table_cons : (Token → Sort) → ℕ → Inner → Read TableCons
+read_table_cons sort height inner = (table_cons_form sort height inner).read
 
-abbrev pub table_cons : (sort : Token → Sort) → Outer → Reading sort TableCons
-table_cons sort outer = sealed (table_cons_form sort outer) (read_table_cons sort outer)
+abbrev pub table_cons : (sort : Token → Sort) → ℕ → Inner → Reading sort TableCons
+table_cons sort height inner = sealed (table_cons_form sort height inner) (read_table_cons sort height inner)
 
 -- how a further constraint of a table begins
 abbrev pub next_cons_starts : Look
 next_cons_starts = (sign Comma ∷ []) ∷ (words table_cons_words ∷ []) ∷ []
 
 -- [","] table-cons
-abbrev next_table_cons_form : (sort : Token → Sort) → Outer → Reading sort NextTableCons
-next_table_cons_form sort outer =
-    formed (λ v. record { comma = v.0; constraint = v.1 }) (seq (opt_leaf sort (sign Comma)) (table_cons sort outer))
+abbrev next_table_cons_form : (sort : Token → Sort) → ℕ → Inner → Reading sort NextTableCons
+next_table_cons_form sort height inner =
+    formed (λ v. record { comma = v.0; constraint = v.1 }) (seq (opt_leaf sort (sign Comma)) (table_cons sort height inner))
 
-unfoldable pub read_next_table_cons : (Token → Sort) → Outer → Read NextTableCons
-read_next_table_cons sort outer = (next_table_cons_form sort outer).read
+unfoldable pub read_next_table_cons : (Token → Sort) → ℕ → Inner → Read NextTableCons
+read_next_table_cons sort height inner = (next_table_cons_form sort height inner).read
 
-abbrev pub next_table_cons : (sort : Token → Sort) → Outer → Reading sort NextTableCons
-next_table_cons sort outer = sealed (next_table_cons_form sort outer) (read_next_table_cons sort outer)
+abbrev pub next_table_cons : (sort : Token → Sort) → ℕ → Inner → Reading sort NextTableCons
+next_table_cons sort height inner = sealed (next_table_cons_form sort height inner) (read_next_table_cons sort height inner)
 
 -- {[","] table-cons}
-abbrev more_table_cons_form : (sort : Token → Sort) → Outer → Reading sort (List NextTableCons)
-more_table_cons_form sort outer = many (next_table_cons sort outer)
+abbrev more_table_cons_form : (sort : Token → Sort) → ℕ → Inner → Reading sort (List NextTableCons)
+more_table_cons_form sort height inner = many (next_table_cons sort height inner)
 
-unfoldable pub read_more_table_cons : (Token → Sort) → Outer → Read (List NextTableCons)
-read_more_table_cons sort outer = (more_table_cons_form sort outer).read
+unfoldable pub read_more_table_cons : (Token → Sort) → ℕ → Inner → Read (List NextTableCons)
+read_more_table_cons sort height inner = (more_table_cons_form sort height inner).read
 
-abbrev pub more_table_cons : (sort : Token → Sort) → Outer → Reading sort (List NextTableCons)
-more_table_cons sort outer = sealed (more_table_cons_form sort outer) (read_more_table_cons sort outer)
+abbrev pub more_table_cons : (sort : Token → Sort) → ℕ → Inner → Reading sort (List NextTableCons)
+more_table_cons sort height inner = sealed (more_table_cons_form sort height inner) (read_more_table_cons sort height inner)
 
 -- "," table-cons {[","] table-cons}
-abbrev table_constraints_form : (sort : Token → Sort) → Outer → Reading sort TableConstraints
-table_constraints_form sort outer =
+abbrev table_constraints_form : (sort : Token → Sort) → ℕ → Inner → Reading sort TableConstraints
+table_constraints_form sort height inner =
     formed (λ v. record { comma = v.0.0; first = v.0.1; more = v.1 })
-    (seq (lead (sign Comma) (table_cons sort outer)) (more_table_cons sort outer))
+    (seq (lead (sign Comma) (table_cons sort height inner)) (more_table_cons sort height inner))
 
-unfoldable pub read_table_constraints : (Token → Sort) → Outer → Read TableConstraints
-read_table_constraints sort outer = (table_constraints_form sort outer).read
+unfoldable pub read_table_constraints : (Token → Sort) → ℕ → Inner → Read TableConstraints
+read_table_constraints sort height inner = (table_constraints_form sort height inner).read
 
-abbrev pub table_constraints : (sort : Token → Sort) → Outer → Reading sort TableConstraints
-table_constraints sort outer = sealed (table_constraints_form sort outer) (read_table_constraints sort outer)
+abbrev pub table_constraints : (sort : Token → Sort) → ℕ → Inner → Reading sort TableConstraints
+table_constraints sort height inner = sealed (table_constraints_form sort height inner) (read_table_constraints sort height inner)
 
 -- ["," table-cons {[","] table-cons}]
-abbrev opt_constraints_form : (sort : Token → Sort) → Outer → Reading sort (Option TableConstraints)
-opt_constraints_form sort outer = opt (table_constraints sort outer)
+abbrev opt_constraints_form : (sort : Token → Sort) → ℕ → Inner → Reading sort (Option TableConstraints)
+opt_constraints_form sort height inner = opt (table_constraints sort height inner)
 
-unfoldable pub read_opt_constraints : (Token → Sort) → Outer → Read (Option TableConstraints)
-read_opt_constraints sort outer = (opt_constraints_form sort outer).read
+unfoldable pub read_opt_constraints : (Token → Sort) → ℕ → Inner → Read (Option TableConstraints)
+read_opt_constraints sort height inner = (opt_constraints_form sort height inner).read
 
-abbrev pub opt_constraints : (sort : Token → Sort) → Outer → Reading sort (Option TableConstraints)
-opt_constraints sort outer = sealed (opt_constraints_form sort outer) (read_opt_constraints sort outer)
+abbrev pub opt_constraints : (sort : Token → Sort) → ℕ → Inner → Reading sort (Option TableConstraints)
+opt_constraints sort height inner = sealed (opt_constraints_form sort height inner) (read_opt_constraints sort height inner)
 
 -- columns ["," table-cons {[","] table-cons}]
 abbrev table_body_form : (sort : Token → Sort) → Outer → Reading sort TableBody
 table_body_form sort outer =
-    formed (λ v. record { columns = v.0; constraints = v.1 }) (seq (columns sort outer) (opt_constraints sort outer))
+    formed (λ v. record { columns = v.0; constraints = v.1 }) (seq (columns sort outer) (opt_constraints sort outer.height outer.inner))
 
 unfoldable pub read_table_body : (Token → Sort) → Outer → Read TableBody
 read_table_body sort outer = (table_body_form sort outer).read
@@ -300,8 +321,8 @@ abbrev pub create_table : (sort : Token → Sort) → Outer → Reading sort Cre
 create_table sort outer = sealed (create_table_form sort outer) (read_create_table sort outer)
 
 -- CREATE [UNIQUE] INDEX [IF NOT EXISTS] name ON name "(" indexeds ")" [WHERE expr]
-abbrev create_index_form : (sort : Token → Sort) → Outer → Reading sort CreateIndex
-create_index_form sort outer =
+abbrev create_index_form : (sort : Token → Sort) → ℕ → Inner → Reading sort CreateIndex
+create_index_form sort height inner =
     formed
     (λ v. record {
       create = v.0.0.0.0.0.0.0.0;
@@ -323,18 +344,18 @@ create_index_form sort outer =
     (leaf_before name (word K.Not)))
     (leaf (word K.On)))
     (leaf name))
-    (key_parens sort outer))
-    (opt_after sort outer.inner K.Where))
+    (key_parens sort height inner))
+    (opt_after sort inner K.Where))
 
-unfoldable pub read_create_index : (Token → Sort) → Outer → Read CreateIndex
-read_create_index sort outer = (create_index_form sort outer).read
+unfoldable pub read_create_index : (Token → Sort) → ℕ → Inner → Read CreateIndex
+read_create_index sort height inner = (create_index_form sort height inner).read
 
-abbrev pub create_index : (sort : Token → Sort) → Outer → Reading sort CreateIndex
-create_index sort outer = sealed (create_index_form sort outer) (read_create_index sort outer)
+abbrev pub create_index : (sort : Token → Sort) → ℕ → Inner → Reading sort CreateIndex
+create_index sort height inner = sealed (create_index_form sort height inner) (read_create_index sort height inner)
 
 -- CREATE VIEW [IF NOT EXISTS] name ["(" names ")"] AS select
-abbrev create_view_form : (sort : Token → Sort) → Outer → Reading sort CreateView
-create_view_form sort outer =
+abbrev create_view_form : (sort : Token → Sort) → Inner → Reading sort CreateView
+create_view_form sort inner =
     formed
     (λ v. record {
       create = v.0.0.0.0.0.0;
@@ -351,10 +372,10 @@ create_view_form sort outer =
     (seq (seq (begun (word K.Create) (leaf (word K.View))) (opt_if_not_exists sort)) (leaf_before name (word K.Not)))
     (opt_names sort))
     (leaf (word K.As)))
-    (select outer.inner))
+    (select inner))
 
-unfoldable pub read_create_view : (Token → Sort) → Outer → Read CreateView
-read_create_view sort outer = (create_view_form sort outer).read
+unfoldable pub read_create_view : (Token → Sort) → Inner → Read CreateView
+read_create_view sort inner = (create_view_form sort inner).read
 
-abbrev pub create_view : (sort : Token → Sort) → Outer → Reading sort CreateView
-create_view sort outer = sealed (create_view_form sort outer) (read_create_view sort outer)
+abbrev pub create_view : (sort : Token → Sort) → Inner → Reading sort CreateView
+create_view sort inner = sealed (create_view_form sort inner) (read_create_view sort inner)

@@ -1,5 +1,5 @@
 -- What is read as a word that is fixed only where a rule names it.
-use Rattle.std.specs.Prelude.{Bool, List, None, Option, Some, [], codes, false, if◌then◌else◌, true, ℕ, ◌&&◌, ◌∷◌}
+use Rattle.std.specs.Prelude.{Bool, List, None, Some, [], codes, false, if◌then◌else◌, true, ℕ, ◌&&◌, ◌∷◌}
 use Rattle.std.specs.Str.{str_eq_ignore_ascii_case}
 use Rattle.sql_token.specs.Token.{span}
 use Rattle.sql_token.specs.declared.token.Token.{Token}
