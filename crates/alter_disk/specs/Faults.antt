@@ -13,8 +13,12 @@ pub record HasCause {T E : Type 0} (before now : ℕ) (result : Result T E) : Ty
   pub failed : OnErr result (Rose before now)
   pub only : OnOk result (now ≡ before)
 
--- the count rose where an opening failed for another reason than want of memory, and else it stayed
-pub record HasOpenCause {T : Type 0} (before now : ℕ) (result : Result T OpenFault) : Type 0 where
+-- the count rose where the result is this fault, and stayed where it is not
+pub record HasCauseOf {T E : Type 0} (fault : E) (before now : ℕ) (result : Result T E) : Type 0 where
   pub later : before ≤ now
-  pub failed : IsErrOf result Failed → Rose before now
-  pub only : (IsErrOf result Failed → ⊥) → now ≡ before
+  pub failed : IsErrOf result fault → Rose before now
+  pub only : (IsErrOf result fault → ⊥) → now ≡ before
+
+-- the count rose where an opening failed for another reason than want of memory, and else it stayed
+abbrev pub HasOpenCause : {T : Type 0} → ℕ → ℕ → Result T OpenFault → Type 0
+HasOpenCause before now result = HasCauseOf Failed before now result

@@ -1,5 +1,5 @@
 -- What a crash may leave at each moment of several calls of a disk, at a bound `D: Disk`.
-use Rattle.std.specs.Prelude.{◌≡◌, ◌⊎◌, ◌≤◌, ℕ, List, Result, IsErrOf, is_some}
+use Rattle.std.specs.Prelude.{◌≡◌, ◌⊎◌, ◌≤◌, ℕ, List, Result, is_some}
 use Rattle.alter_disk.specs.declared.way.Way.{Way}
 use Rattle.alter_disk.specs.declared.way.Way.TheVariants.{Read, Write}
 use Rattle.alter_disk.specs.declared.which.Which.{Which}
@@ -8,7 +8,8 @@ use Rattle.alter_disk.specs.declared.disk.Disk.{Ghosts}
 use Rattle.alter_disk.specs.Files.{Files, file, other_of}
 use Rattle.alter_disk.specs.Changes.{IfTold, ChangesOne}
 use Rattle.alter_disk.specs.Crash.{After, NoMore}
-use Rattle.alter_disk.specs.Uses.{OnlyReads, ReadFailed, WriteFailed}
+use Rattle.alter_disk.specs.Faults.{HasCauseOf}
+use Rattle.alter_disk.specs.Uses.{OnlyReads}
 
 -- a crash at any moment between two states leaves what it might have left before the first, or files of which P holds
 pub record Leaves {D : Type 0} (disk : Ghosts D) (old new : D) (P : Files → Type 0) : Type 0 where
@@ -49,7 +50,7 @@ pub record Stays {D : Type 0} (disk : Ghosts D) (old new : D) : Type 0 where
   pub reads : disk.read_faults old ≤ disk.read_faults new
   pub writes : disk.write_faults old ≤ disk.write_faults new
 
--- a failure that names its kind comes where a call of that kind failed
+-- a failure names its kind: that count rose where it is the answer, and else it stayed
 pub record HasWay {D T : Type 0} (disk : Ghosts D) (old new : D) (result : Result T Way) : Type 0 where
-  pub reading : IsErrOf result Read → ReadFailed disk old new
-  pub writing : IsErrOf result Write → WriteFailed disk old new
+  pub reading : HasCauseOf Read (disk.read_faults old) (disk.read_faults new) result
+  pub writing : HasCauseOf Write (disk.write_faults old) (disk.write_faults new) result

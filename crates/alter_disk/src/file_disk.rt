@@ -138,18 +138,12 @@ fn open_file<R: Files<File = File>>(rt: &R, name: &str, makes: bool) -> io::Resu
         .open(rt, name)
 }
 
-/// Opens the journal. One that is missing is made, and its new name made durable: its folder is synced
-/// (atomiccommit.html).
+/// Opens the journal, which is made where it is missing, and makes its name durable: its folder is synced
+/// (atomiccommit.html), also where an earlier run that was stopped made the file.
 fn open_journal<R: Files<File = File>>(rt: &R, name: &str) -> io::Result<File> {
-    match open_file(rt, name, false) {
-        Ok(file) => Ok(file),
-        Err(fault) if fault.kind() != io::ErrorKind::NotFound => Err(fault),
-        Err(_) => {
-            let file = open_file(rt, name, true)?;
-            File::open(rt, folder_of(name))?.sync_all()?;
-            Ok(file)
-        }
-    }
+    let file = open_file(rt, name, true)?;
+    File::open(rt, folder_of(name))?.sync_all()?;
+    Ok(file)
 }
 
 /// The folder of a file of this name.

@@ -1,11 +1,11 @@
 -- What a recovery answers and leaves.
-use Rattle.std.specs.Prelude.{◌≡◌, ℕ, ◌+◌, ◌<◌, Bool, true, false, ◌||◌, if◌then◌else◌, List, length, slice_index_or, is_some, None, Result, Ok, Err, IsErrOf}
+use Rattle.std.specs.Prelude.{◌≡◌, ℕ, ◌+◌, ◌<◌, Bool, true, false, ◌||◌, if◌then◌else◌, List, length, slice_index_or, is_some, None, Result, Ok, Err}
 use Rattle.alter_disk.specs.declared.way.Way.TheVariants.{Read, Write}
 use Rattle.alter_disk.specs.declared.disk.Disk.{Ghosts}
 use Rattle.alter_disk.specs.Files.{Files}
 use Rattle.alter_disk.specs.Changes.{overwritten}
 use Rattle.alter_disk.specs.Moments.{AtRest, ReadsQuietly}
-use Rattle.alter_disk.specs.Uses.{ReadFailed, WriteFailed}
+use Rattle.alter_disk.specs.Faults.{HasCauseOf}
 use Rattle.rollback_journal.specs.declared.fault.RecoverFault.{RecoverFault}
 use Rattle.rollback_journal.specs.declared.fault.RecoverFault.TheVariants.{Memory, Failed, Super, Short, TooLarge}
 use Rattle.rollback_journal.specs.declared.heat.Heat.{Heat}
@@ -41,10 +41,10 @@ IsRefusal f Super = standing f ≡ IsSuper
 IsRefusal f (Short n) = standing f ≡ IsShort n
 IsRefusal f TooLarge = standing f ≡ IsTooLarge
 
--- a failure comes where a call of its kind failed
+-- a failure names its kind: that count rose where it is the answer, and else it stayed
 pub record HasCauses {D T : Type 0} (disk : Ghosts D) (old new : D) (result : Result T RecoverFault) : Type 0 where
-  pub reading : IsErrOf result (Failed Read) → ReadFailed disk old new
-  pub writing : IsErrOf result (Failed Write) → WriteFailed disk old new
+  pub reading : HasCauseOf (Failed Read) (disk.read_faults old) (disk.read_faults new) result
+  pub writing : HasCauseOf (Failed Write) (disk.write_faults old) (disk.write_faults new) result
 
 -- whether a journal has to be played
 abbrev pub is_hot : Heat → Bool
