@@ -1,7 +1,7 @@
 //! A new page 1 on its way to the disk.
-ghost use Rattle.std.specs.Prelude.{◌≡◌, ◌⊎◌, true, List, ℕ, length, IfErr, IfOk, IsErrOf, OnErr, OnOk};
+ghost use Rattle.std.specs.Prelude.{◌≡◌, ◌⊎◌, true, List, ℕ, length, IfErr, IfOk, OnErr, OnOk};
+ghost use Rattle.alter_disk.specs.Faults.{HasCauseOf};
 ghost use Rattle.alter_disk.specs.Moments.{Leaves, ReadsQuietly, Stays};
-ghost use Rattle.alter_disk.specs.Uses.{ReadFailed};
 ghost use Rattle.pager_core.specs.Pages.{IsPage, before_of, disk_of, shape_of};
 ghost use Rattle.pager_commit.specs.Opens.{Opens};
 ghost use Rattle.alter_session.specs.Committing.{FailsBy, GivesSizes, IsBefore, IsClean, IsStaged, KeepsSizes, with_first};
@@ -22,7 +22,7 @@ fn stage<D: Disk>(alloc: Global, pages: &mut Pages<D>, page: &[u8]) -> Result<Pl
     ensures clean { OnErr result ((image : List (List ℕ)) → IsClean D.Disk image pages.old → IsClean D.Disk image pages.new) }
     ensures sizes { KeepsSizes pages.old pages.new }
     ensures reads { ReadsQuietly D.Disk (disk_of pages.old) (disk_of pages.new) }
-    ensures failed { IsErrOf result PageError.Failed → ReadFailed D.Disk (disk_of pages.old) (disk_of pages.new) }
+    ensures cause { HasCauseOf PageError.Failed (D.read_faults (disk_of pages.old)) (D.read_faults (disk_of pages.new)) result }
 {
     pages.change(1, 0, page)?;
     match Plan::prepare(alloc, pages) {

@@ -1,7 +1,7 @@
 //! A database that is served, read off its pages.
-ghost use Rattle.std.specs.Prelude.{◌≡◌, ◌≤◌, ◌↔◌, ℕ, List, true, length, Some, IfNone, IfOk, IfSome, IsErrOf, IsSome, IsTrue};
+ghost use Rattle.std.specs.Prelude.{◌≡◌, ◌≤◌, ◌↔◌, ℕ, List, true, length, Some, IfNone, IfOk, IfSome, IsSome, IsTrue};
 ghost use Rattle.std.specs.List.{AllByRecursion};
-ghost use Rattle.alter_disk.specs.Uses.{ReadFailed};
+ghost use Rattle.alter_disk.specs.Faults.{HasCauseOf};
 ghost use Rattle.pager_core.specs.Pages.{IsPage, StayAll, disk_of, shape_of, shown};
 ghost use Rattle.plain_schema.specs.declared.table.Table.{Table};
 ghost use Rattle.plain_schema.specs.FirstForm.{HasRoot, IsFirstForm, first_page};
@@ -45,7 +45,7 @@ fn read_first<D: Disk>(alloc: Global, pages: &mut Pages<D>) -> Result<Option<Fir
     ensures only { IfOk result (λ read. (page : List ℕ) → shown pages.new 1 ≡ Some page → OnlyRows (shape_of pages.old).usable page read) }
     ensures there { IfOk result (λ _. IsSome (shown pages.new 1)) }
     ensures stay { StayAll D.Disk pages.old pages.new }
-    ensures failed { IsErrOf result PageError.Failed → ReadFailed D.Disk (disk_of pages.old) (disk_of pages.new) }
+    ensures cause { HasCauseOf PageError.Failed (D.read_faults (disk_of pages.old)) (D.read_faults (disk_of pages.new)) result }
 {
     pages.load(1)?;
     let usable = pages.shape().usable as usize;
@@ -71,7 +71,7 @@ fn has_root<D: Disk>(
     ensures there { IfOk result (λ has. IsTrue has → (2 ≤ row.now.root) × (row.now.root ≤ (shape_of pages.old).count)) }
     ensures root { IfOk result (λ has. (image : Image) → IsImageOf D.Disk image pages.old → IsTrue has ↔ HasRoot image row.now) }
     ensures stay { StayAll D.Disk pages.old pages.new }
-    ensures failed { IsErrOf result PageError.Failed → ReadFailed D.Disk (disk_of pages.old) (disk_of pages.new) }
+    ensures cause { HasCauseOf PageError.Failed (D.read_faults (disk_of pages.old)) (D.read_faults (disk_of pages.new)) result }
 {
     let root = row.root;
     if root < 2 || root > pages.count() {
@@ -93,7 +93,7 @@ fn have_roots<D: Disk>(
     ensures there { IfOk result (λ have. IsTrue have → AllByRecursion (λ row. (2 ≤ row.root) × (row.root ≤ (shape_of pages.old).count)) rows.now) }
     ensures roots { IfOk result (λ have. (image : Image) → IsImageOf D.Disk image pages.old → IsTrue have ↔ AllByRecursion (HasRoot image) rows.now) }
     ensures stay { StayAll D.Disk pages.old pages.new }
-    ensures failed { IsErrOf result PageError.Failed → ReadFailed D.Disk (disk_of pages.old) (disk_of pages.new) }
+    ensures cause { HasCauseOf PageError.Failed (D.read_faults (disk_of pages.old)) (D.read_faults (disk_of pages.new)) result }
 {
     for row in rows {
         if !has_root(alloc, pages, row)? {
@@ -117,7 +117,7 @@ fn form_of<D: Disk>(
     ensures unserved { IfOk result (λ read. IfNone read ((image : Image) (tables : List Table) → IsImageOf D.Disk image pages.old
         → OnlyRows (shape_of pages.old).usable (first_page image) (Some first) → IsFirstForm image tables → ⊥)) }
     ensures stay { StayAll D.Disk pages.old pages.new }
-    ensures failed { IsErrOf result PageError.Failed → ReadFailed D.Disk (disk_of pages.old) (disk_of pages.new) }
+    ensures cause { HasCauseOf PageError.Failed (D.read_faults (disk_of pages.old)) (D.read_faults (disk_of pages.new)) result }
 {
     let First { page, rows } = first;
     if !are_apart(rows.as_slice()) || !have_roots(alloc, pages, rows.as_slice())? {
@@ -144,7 +144,7 @@ pub(crate) fn read_form<D: Disk>(
     ensures found { IfOk result (λ read. IfSome read (λ form. (image : Image) → IsImageOf D.Disk image pages.old → IsFormOf image form)) }
     ensures unserved { IfOk result (λ read. IfNone read ((image : Image) (tables : List Table) → IsImageOf D.Disk image pages.old → IsFirstForm image tables → ⊥)) }
     ensures stay { StayAll D.Disk pages.old pages.new }
-    ensures failed { IsErrOf result PageError.Failed → ReadFailed D.Disk (disk_of pages.old) (disk_of pages.new) }
+    ensures cause { HasCauseOf PageError.Failed (D.read_faults (disk_of pages.old)) (D.read_faults (disk_of pages.new)) result }
 {
     match read_first(alloc, pages)? {
         Some(first) => form_of(alloc, pages, first),

@@ -1,10 +1,9 @@
 //! What is to be committed.
-ghost use Rattle.std.specs.Prelude.{◌≡◌, true, List, ℕ, Some, IfOk, IsErrOf, OnErr, OnOk, is_some};
-ghost use Rattle.alter_disk.specs.Faults.{HasCause};
+ghost use Rattle.std.specs.Prelude.{◌≡◌, true, List, ℕ, Some, IfOk, OnErr, OnOk, is_some};
+ghost use Rattle.alter_disk.specs.Faults.{HasCause, HasCauseOf};
 ghost use Rattle.alter_disk.specs.Rest.{KeepsRest};
 ghost use Rattle.alter_disk.specs.Files.{Files};
 ghost use Rattle.alter_disk.specs.Moments.{ReadsQuietly};
-ghost use Rattle.alter_disk.specs.Uses.{ReadFailed};
 ghost use Rattle.pager_core.specs.Pages.{SettlesChanges, disk_of, with_disk};
 ghost use Rattle.pager_core.specs.Image.{image_of, known_image};
 ghost use Rattle.pager_commit.specs.Ready.{EachStands, IsCommitted, IsOverDatabase, IsReady, StopsBetween};
@@ -41,7 +40,7 @@ impl Plan {
         ensures plan { IfOk result (λ plan. (f : Files) → D.files (disk_of pages.old) ≡ Some f → IsPlanOf pages.old f.db plan) }
         ensures kept { pages.new ≡ with_disk pages.old (disk_of pages.new) }
         ensures reads { ReadsQuietly D.Disk (disk_of pages.old) (disk_of pages.new) }
-        ensures failed { IsErrOf result PageError.Failed → ReadFailed D.Disk (disk_of pages.old) (disk_of pages.new) }
+        ensures cause { HasCauseOf PageError.Failed (D.read_faults (disk_of pages.old)) (D.read_faults (disk_of pages.new)) result }
     {
         let mut journal = start_journal(alloc, pages)?;
         add_records(pages, &mut journal)?;

@@ -1,8 +1,8 @@
 //! The bytes of the journal.
-ghost use Rattle.std.specs.Prelude.{◌≡◌, ◌≤◌, ◌<◌, ◌+◌, ◌^◌, ◌++◌, true, length, replicate, IfOk, OnOk, IsErrOf};
+ghost use Rattle.std.specs.Prelude.{◌≡◌, ◌≤◌, ◌<◌, ◌+◌, ◌^◌, ◌++◌, true, length, replicate, IfOk, OnOk};
 ghost use Rattle.byteorder.specs.Endian.{big_bytes};
+ghost use Rattle.alter_disk.specs.Faults.{HasCauseOf};
 ghost use Rattle.alter_disk.specs.Moments.{ReadsQuietly};
-ghost use Rattle.alter_disk.specs.Uses.{ReadFailed};
 ghost use Rattle.rollback_journal.specs.Header.{bytes_of};
 ghost use Rattle.rollback_journal.specs.Checksum.{checksum_of};
 ghost use Rattle.pager_core.specs.Shape.{IsShape};
@@ -62,7 +62,7 @@ pub(crate) fn add_records<D: Disk>(
     ensures added { OnOk result (HasRecords (is_changed pages.old) (shape_of pages.old).page (before_of pages.old) (D.files (disk_of pages.old)) journal.old.items journal.new.items) }
     ensures kept { pages.new ≡ with_disk pages.old (disk_of pages.new) }
     ensures reads { ReadsQuietly D.Disk (disk_of pages.old) (disk_of pages.new) }
-    ensures failed { IsErrOf result PageError.Failed → ReadFailed D.Disk (disk_of pages.old) (disk_of pages.new) }
+    ensures cause { HasCauseOf PageError.Failed (D.read_faults (disk_of pages.old)) (D.read_faults (disk_of pages.new)) result }
 {
     for n in 0..pages.before() {
         add_changed(pages, n + 1, journal)?;
@@ -81,7 +81,7 @@ fn add_changed<D: Disk>(
     ensures added { OnOk result (MayAdd (is_changed pages.old n) (shape_of pages.old).page n (D.files (disk_of pages.old)) journal.old.items journal.new.items) }
     ensures kept { pages.new ≡ with_disk pages.old (disk_of pages.new) }
     ensures reads { ReadsQuietly D.Disk (disk_of pages.old) (disk_of pages.new) }
-    ensures failed { IsErrOf result PageError.Failed → ReadFailed D.Disk (disk_of pages.old) (disk_of pages.new) }
+    ensures cause { HasCauseOf PageError.Failed (D.read_faults (disk_of pages.old)) (D.read_faults (disk_of pages.new)) result }
 {
     if pages.changed(n) {
         add_record(pages, n, journal)
@@ -97,7 +97,7 @@ fn add_record<D: Disk>(pages: &mut Pages<D>, n: u32, journal: &mut Vec<u8>) -> R
     ensures added { OnOk result (AddsRecord (shape_of pages.old).page n (D.files (disk_of pages.old)) journal.old.items journal.new.items) }
     ensures kept { pages.new ≡ with_disk pages.old (disk_of pages.new) }
     ensures reads { ReadsQuietly D.Disk (disk_of pages.old) (disk_of pages.new) }
-    ensures failed { IsErrOf result PageError.Failed → ReadFailed D.Disk (disk_of pages.old) (disk_of pages.new) }
+    ensures cause { HasCauseOf PageError.Failed (D.read_faults (disk_of pages.old)) (D.read_faults (disk_of pages.new)) result }
 {
     let page = pages.stored(n)?;
     push_record(journal, n, page.as_slice())?;

@@ -1,10 +1,9 @@
 //! The pages of a file over its disk.
-ghost use Rattle.std.specs.Prelude.{◌≡◌, ◌≤◌, ◌+◌, ◌-◌, ◌*◌, ◌^◌, ◌++◌, ◌<◌, true, false, length, take, drop, replicate, Some, IfOk, OnOk, OnErr, IsErrOf, IsSome, IsSomeAnd, ⊤};
+ghost use Rattle.std.specs.Prelude.{◌≡◌, ◌≤◌, ◌+◌, ◌-◌, ◌*◌, ◌^◌, ◌++◌, ◌<◌, true, false, length, take, drop, replicate, Some, IfOk, OnOk, OnErr, IsSome, IsSomeAnd, ⊤};
 ghost use Rattle.alter_disk.specs.Changes.{IfTold, Torn, TornIn, Written};
-ghost use Rattle.alter_disk.specs.Faults.{HasCause};
+ghost use Rattle.alter_disk.specs.Faults.{HasCause, HasCauseOf};
 ghost use Rattle.alter_disk.specs.Rest.{KeepsRest};
 ghost use Rattle.alter_disk.specs.Moments.{ChangesFile, ReadsQuietly};
-ghost use Rattle.alter_disk.specs.Uses.{ReadFailed};
 ghost use Rattle.pager_core.specs.Shape.{IsShape};
 ghost use Rattle.pager_core.specs.Pages.{ChangesPage, ForgetsChanges, IsPage, KeepsKnown, KeepsNoMore, KeepsOthers, SettlesChanges, StayAll, before_of, bytes_of, dirty_of, disk_of, is_changed, page_bytes, place_of, shape_of, shown, unread_pages, with_disk};
 ghost use Rattle.pager_core.specs.contracts.pages.Pages.{the_row};
@@ -91,7 +90,7 @@ impl<D: Disk> Pages<D> {
         ensures none { OnErr result (KeepsNoMore self.old self.new) }
         ensures others { KeepsOthers n self.old self.new }
         ensures again { IsSome (shown self.old n) → self.new ≡ self.old }
-        ensures failed { IsErrOf result PageError.Failed → ReadFailed D.Disk (disk_of self.old) (disk_of self.new) }
+        ensures cause { HasCauseOf PageError.Failed (D.read_faults (disk_of self.old)) (D.read_faults (disk_of self.new)) result }
     {
         if self.kept.is_shown(n) {
             return Ok(());
@@ -122,7 +121,7 @@ impl<D: Disk> Pages<D> {
         ensures* after { sem 𝓛 (follows_so (the_row D.row) (the_row D.row) self.entry.ghost_name none (λ _ _. ⊤)
             (λ now. StayAll D.Disk self.old now × IfOk result (λ bytes. (shown now n ≡ Some bytes.now) × (length bytes.now ≡ (shape_of now).page))
             × OnErr result (KeepsNoMore self.old now) × (IsSome (shown self.old n) → now ≡ self.old)
-            × (IsErrOf result PageError.Failed → ReadFailed D.Disk (disk_of self.old) (disk_of now))
+            × HasCauseOf PageError.Failed (D.read_faults (disk_of self.old)) (D.read_faults (disk_of now)) result
             × KeepsOthers n self.old now)) }
     {
         self.load(n)?;
@@ -138,7 +137,7 @@ impl<D: Disk> Pages<D> {
         ensures stay { OnErr result (StayAll D.Disk self.old self.new) }
         ensures none { OnErr result (KeepsNoMore self.old self.new) }
         ensures others { KeepsOthers n self.old self.new }
-        ensures failed { IsErrOf result PageError.Failed → ReadFailed D.Disk (disk_of self.old) (disk_of self.new) }
+        ensures cause { HasCauseOf PageError.Failed (D.read_faults (disk_of self.old)) (D.read_faults (disk_of self.new)) result }
     {
         let room = self.kept.room_for(n)?;
         self.load(n)?;
@@ -155,7 +154,7 @@ impl<D: Disk> Pages<D> {
         ensures told { IfOk result (λ bytes. IfTold (D.files (disk_of self.old)) (λ files. bytes.items ≡ page_bytes (shape_of self.old).page n files.db)) }
         ensures kept { self.new ≡ with_disk self.old (disk_of self.new) }
         ensures reads { ReadsQuietly D.Disk (disk_of self.old) (disk_of self.new) }
-        ensures failed { IsErrOf result PageError.Failed → ReadFailed D.Disk (disk_of self.old) (disk_of self.new) }
+        ensures cause { HasCauseOf PageError.Failed (D.read_faults (disk_of self.old)) (D.read_faults (disk_of self.new)) result }
     {
         let page = self.kept.shape().page;
         read_page(self.kept.allocator(), &mut self.disk, page, n)
@@ -209,7 +208,7 @@ fn read_page<D: Disk>(alloc: Global, disk: &mut D, page: u32, n: u32) -> Result<
     ensures extent { IfOk result (λ bytes. length bytes.items ≡ page) }
     ensures told { IfOk result (λ bytes. IfTold (D.files disk.old) (λ files. bytes.items ≡ page_bytes page n files.db)) }
     ensures reads { ReadsQuietly D.Disk disk.old disk.new }
-    ensures failed { IsErrOf result PageError.Failed → ReadFailed D.Disk disk.old disk.new }
+    ensures cause { HasCauseOf PageError.Failed (D.read_faults disk.old) (D.read_faults disk.new) result }
 {
     let mut bytes = vec![in alloc; 0u8; page as usize]?;
     let at = (n - 1) as u64 * page as u64;

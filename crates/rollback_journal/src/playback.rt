@@ -59,6 +59,7 @@ fn write_page<D: Disk>(
     ensures played { OnOk result ((f : Files) (later : List Entry) → Playing D.Disk f header.now (record { page = number; bytes = page_in header.now bytes.now } ∷ later) disk.old → Playing D.Disk f header.now later disk.new) }
     ensures stops { (f : Files) (later : List Entry) → IsPlayable f header.now → Playing D.Disk f header.now (record { page = number; bytes = page_in header.now bytes.now } ∷ later) disk.old → Leaves D.Disk disk.old disk.new (λ c. standing c ≡ standing f) }
     ensures stays { Stays D.Disk disk.old disk.new }
+    ensures other { D.read_faults disk.new ≡ D.read_faults disk.old }
     ensures cause { HasCause (D.write_faults disk.old) (D.write_faults disk.new) result }
 {
     let at = (number as u64 - 1) * header.page as u64;

@@ -1,4 +1,4 @@
-use Rattle.std.proofs.Common.{◌≤◌, List, sym, ap, ◌∙◌, refl, subst, arith}
+use Rattle.std.proofs.Common.{◌≤◌, List, sym, ap, ◌∙◌, refl, subst, is_ok, true≢false, arith}
 use Rattle.std.proofs.lemmas.Bool.{false≢true}
 use Rattle.std.proofs.lemmas.List.{take_all}
 use Rattle.std.proofs.lemmas.Option.{slice_get_read}
@@ -34,6 +34,7 @@ loop-row-preserved g c =
       roots = λ image is. all_more (HasRoot image) rows at.row-index c.row-item.result (at.invariant.roots image is) c.loop-row-test.true c.row-item.is
           ((c.in_ok-has_root.ensures.root image (image_stays g.D.Disk image old at.pages at.invariant.stay is)).0 c.if-not-branch.false);
       stay = stay_on g.D.Disk old at.pages c.has_root.new.pages at.invariant.stay c.has_root.ensures.stay;
+      faultless = c.in_ok-has_root.ensures.cause.only (λ is. true≢false (ap is_ok is)) ∙ at.invariant.faultless;
     }
 
 pub returns-clause-roots : goal.returns-clause-roots

@@ -12,6 +12,8 @@ loop-next-init g c = record {
   len = c.new-cursor.ensures.len;
   room = refl;
   stays = stays_none g.D.Disk c.args.disk.now;
+  read = refl;
+  written = refl;
   playing = λ f told ready rests.
       subst (λ l. Playing g.D.Disk f c.args.header.now l c.args.disk.now) (sym (c.new-cursor.ensures.entries f.journal ready.long)) (starts g.D.Disk f c.args.header.now c.args.disk.now ready.playable told rests);
   stops = λ f told ready rests. started g.D.Disk c.args.disk.now (λ c. standing c ≡ standing f);
@@ -39,6 +41,8 @@ loop-next-preserved g c = record {
   len = c.next.ensures.on.len ∙ c.loop-next.invariant.len;
   room = omega arith;
   stays = stays_on g.D.Disk _ _ _ (stays_on g.D.Disk _ _ _ c.loop-next.invariant.stays (stays_read g.D.Disk _ _ c.next.ensures.reads)) c.write_page.ensures.stays;
+  read = c.write_page.ensures.other ∙ c.in-Ok.ensures.cause.only ∙ c.loop-next.invariant.read;
+  written = c.in-Ok-write_page.ensures.cause.only ∙ c.next.ensures.reads.only.writes_stay ∙ c.loop-next.invariant.written;
   playing = λ f told ready rests.
       let playing = c.loop-next.invariant.playing f told ready rests in
       let gives = c.in-Ok.ensures.gives (record f { db = playing.now }) playing.files (c.loop-next.invariant.len ∙ ready.long) in
