@@ -14,13 +14,13 @@ use Rattle.pager_core.specs.declared.file_shape.FileShape.{FileShape}
 use Rattle.pager_core.specs.declared.pages.Pages.{Pages}
 use Rattle.pager_core.specs.Header.{number_at, page_size}
 use Rattle.pager_core.specs.Image.{all_upto, image_of, known_image, with_last}
-use Rattle.pager_core.specs.Pages.{ChangesPage, ForgetsChanges, SettlesChanges, bytes_of, disk_of, known, page_bytes, shape_of, shown, with_disk}
+use Rattle.pager_core.specs.Pages.{FitsDatabase, ChangesPage, ForgetsChanges, SettlesChanges, bytes_of, disk_of, known, page_bytes, shape_of, shown, with_disk}
 use Rattle.pager_core.specs.Shape.{IsShape}
 use Rattle.pager_core.proofs.Fits.{unchanged_known}
 use Rattle.pager_core.proofs.WriteLemmas.{length-page}
 use Rattle.pager_commit.specs.Opens.{Opens, image_by}
 use Rattle.pager_commit.specs.Plan.{IsPlanOf}
-use Rattle.pager_commit.specs.Ready.{EachStands, HasFirstPage, IsCommitted, IsOpened, IsOverDatabase, IsReady, StopsBetween}
+use Rattle.pager_commit.specs.Ready.{EachStands, HasFirstPage, IsCommitted, IsOpened, IsReady, StopsBetween}
 use Rattle.pager_commit.proofs.CommitLemmas.{each_stands}
 use Rattle.pager_commit.proofs.Opened.{Commits, opened_again, opened_change, opened_forget, opened_read, opened_same, same_upto}
 use Rattle.alter_session.specs.Committing.{GivesSizes, IsClean, IsStaged, with_first}
@@ -158,7 +158,7 @@ module _ {D : Type 0} (disk : Ghosts D) where
         → SettlesChanges disk (with_disk old (disk_of new)) new → is_some (disk.files (disk_of new)) ≡ is_some (disk.files (disk_of old)) → IsClean disk (with_first page image) new
     committed done settled telling =
         let after = with_first page image in
-        let ended = done is.base is.log after is.ready (each_stands disk old is.base is.log plan is.ready is.opened.over) is.after in
+        let ended = done is.base is.log after is.ready (each_stands disk old is.base is.log plan is.ready is.opened.over.fits) is.after in
         let commits : Commits disk old new after = record {
           sound = is.ready.planned.sound;
           first = is.ready.first;
@@ -178,16 +178,16 @@ module _ {D : Type 0} (disk : Ghosts D) where
         }
 
     -- at each moment of it
-    pub commit_stops : ((base log : List ℕ) (before after : List (List ℕ)) → IsReady disk old base log plan → IsOverDatabase disk old base → image_of base ≡ Some before → known_image disk old ≡ Some after → StopsBetween disk before after base plan (disk_of old) (disk_of new))
+    pub commit_stops : ((base log : List ℕ) (before after : List (List ℕ)) → IsReady disk old base log plan → FitsDatabase disk old base → image_of base ≡ Some before → known_image disk old ≡ Some after → StopsBetween disk before after base plan (disk_of old) (disk_of new))
         → Leaves disk (disk_of old) (disk_of new) (λ c. Opens image c ⊎ Opens (with_first page image) c)
     commit_stops stops =
-        let between = stops is.base is.log image (with_first page image) is.ready is.opened.over is.before is.after in
+        let between = stops is.base is.log image (with_first page image) is.ready is.opened.over.fits is.before is.after in
         goes_far disk (disk_of old) between.mid (disk_of new) (λ c. Opens image c ⊎ Opens (with_first page image) c)
         (weaker disk (disk_of old) between.mid (Opens image) (λ c. Opens image c ⊎ Opens (with_first page image) c) (λ c same. inl same) between.first) between.then_
 
     -- and of the reading calls before it
     pub page_stops : (first : Pages D) → Leaves disk (disk_of first) (disk_of old) (Opens image)
-        → ((base log : List ℕ) (before after : List (List ℕ)) → IsReady disk old base log plan → IsOverDatabase disk old base → image_of base ≡ Some before → known_image disk old ≡ Some after → StopsBetween disk before after base plan (disk_of old) (disk_of new))
+        → ((base log : List ℕ) (before after : List (List ℕ)) → IsReady disk old base log plan → FitsDatabase disk old base → image_of base ≡ Some before → known_image disk old ≡ Some after → StopsBetween disk before after base plan (disk_of old) (disk_of new))
         → Leaves disk (disk_of first) (disk_of new) (λ c. Opens image c ⊎ Opens (with_first page image) c)
     page_stops first quiet stops =
         goes_far disk (disk_of first) (disk_of old) (disk_of new) (λ c. Opens image c ⊎ Opens (with_first page image) c)

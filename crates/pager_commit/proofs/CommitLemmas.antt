@@ -10,10 +10,10 @@ use Rattle.rollback_journal.specs.Heat.{heat_of}
 use Rattle.rollback_journal.proofs.Shut.{stands_cold}
 use Rattle.pager_core.specs.declared.pages.Pages.{Pages}
 use Rattle.pager_core.specs.Image.{image_of, known_image}
-use Rattle.pager_core.specs.Pages.{before_of, bytes_of, disk_of, is_changed, shape_of}
+use Rattle.pager_core.specs.Pages.{FitsDatabase, before_of, bytes_of, disk_of, is_changed, shape_of}
 use Rattle.pager_core.proofs.Fits.{unchanged_known}
 use Rattle.pager_commit.specs.Opens.{Opens, image_by}
-use Rattle.pager_commit.specs.Ready.{EachStands, IsCommitted, IsOverDatabase, IsReady, StopsBetween}
+use Rattle.pager_commit.specs.Ready.{EachStands, IsCommitted, IsReady, StopsBetween}
 use Rattle.pager_commit.specs.Stages.{ColdOr, GoesThrough, HasExtents, IsEnded, KeepsUnchanged, written_whole}
 use Rattle.pager_commit.proofs.After.{after_image, written_keeps}
 use Rattle.pager_commit.proofs.Standings.{IsOver, cold_or_opens, unchanged_opens}
@@ -34,21 +34,21 @@ module _ {D : Type 0} (disk : Ghosts D) (pages : Pages D) (base log plan : List 
       }
 
   -- over the database from which the pages were read each page is changed or stands there
-  pub each_stands : IsOverDatabase disk pages base → EachStands disk pages base
-  each_stands over = record {
+  pub each_stands : FitsDatabase disk pages base → EachStands disk pages base
+  each_stands fits = record {
     each = λ n from to. elim (cases_Bool (is_changed pages n)) [
       | inl is ↦ inl is
       | inr same ↦ elim (cases_lt (before_of pages) n) [
-        | inl past ↦ inl (over.grown n past to)
+        | inl past ↦ inl (ready.planned.added n past to)
         | inr within ↦ inr (record {
-          whole = let below : n * (shape_of pages).page ≤ before_of pages * (shape_of pages).page = mul-le-mul_right (shape_of pages).page within in omega (arith, below, over.fits.whole);
-          known = unchanged_known disk pages n same ∙ over.fits.originals n from within;
+          whole = let below : n * (shape_of pages).page ≤ before_of pages * (shape_of pages).page = mul-le-mul_right (shape_of pages).page within in omega (arith, below, fits.whole);
+          known = unchanged_known disk pages n same ∙ fits.originals n from within;
         })
       ]
     ];
   }
 
-  module _ (over : IsOverDatabase disk pages base) (room : length plan ≤ 2 ^ 30) (before after : List (List ℕ)) (is_before : image_of base ≡ Some before)
+  module _ (fits : FitsDatabase disk pages base) (room : length plan ≤ 2 ^ 30) (before after : List (List ℕ)) (is_before : image_of base ≡ Some before)
       (is_after : known_image disk pages ≡ Some after) where
     is_over : IsOver pages base plan
     is_over = record {
@@ -58,9 +58,9 @@ module _ {D : Type 0} (disk : Ghosts D) (pages : Pages D) (base log plan : List 
       first = ready.first.changed;
       plan = ready.planned;
       room = room;
-      size = over.fits.size;
-      count = over.fits.count;
-      whole = over.fits.whole;
+      size = fits.size;
+      count = fits.count;
+      whole = fits.whole;
     }
 
     ended_opens : HasExtents (shape_of pages).count pages → (c : Files) → ColdOr (written_whole pages base) plan c → Opens before c ⊎ Opens after c
@@ -69,7 +69,7 @@ module _ {D : Type 0} (disk : Ghosts D) (pages : Pages D) (base log plan : List 
         ⊎_elim
         (λ whole. inl (unchanged_opens pages base plan is_over before is_before c
         (record { db = subst (KeepsUnchanged (is_changed pages) (shape_of pages).page base) (sym one.db) keeps; journal = whole })))
-        (λ cold. inr (ap image_by (stands_cold c cold) ∙ ap image_of one.db ∙ after_image disk pages base ready.planned.sound extents ready.first (each_stands over) ∙ is_after))
+        (λ cold. inr (ap image_by (stands_cold c cold) ∙ ap image_of one.db ∙ after_image disk pages base ready.planned.sound extents ready.first (each_stands fits) ∙ is_after))
         one.journal
 
     pub stops_between : (new : D) → GoesThrough disk pages base plan new → StopsBetween disk before after base plan (disk_of pages) new

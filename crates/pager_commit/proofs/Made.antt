@@ -7,7 +7,7 @@ use Rattle.alter_disk.specs.Files.{Files}
 use Rattle.rollback_journal.specs.Header.{bytes_of, magic}
 use Rattle.rollback_journal.specs.Records.{Entry}
 use Rattle.pager_core.specs.declared.pages.Pages.{Pages}
-use Rattle.pager_core.specs.Pages.{before_of, is_changed, shape_of}
+use Rattle.pager_core.specs.Pages.{CountsAdded, before_of, is_changed, shape_of}
 use Rattle.pager_core.specs.Shape.{IsShape}
 use Rattle.pager_commit.specs.Plan.{IsPlanOf, entry_at, header_for, numbers_upto, originals, record_of}
 use Rattle.pager_commit.specs.Records.{HasRecords}
@@ -27,13 +27,14 @@ module _ {D : Type 0} (pages : Pages D) (files : Option Files) (front journal : 
       (opens, omega (arith, len), omega (arith, len, small))
 
   pub made_plan : front ≡ bytes_of (header_for pages) true ++ replicate 484 0 → HasRecords (is_changed pages) (shape_of pages).page (before_of pages) files front journal
-      → IsShape (shape_of pages) → (1 ≤ before_of pages) × (before_of pages ≤ (shape_of pages).count) → (f : Files) → files ≡ Some f → IsPlanOf pages f.db journal
-  made_plan begins has sound within f is =
+      → IsShape (shape_of pages) → (1 ≤ before_of pages) × (before_of pages ≤ (shape_of pages).count) → CountsAdded pages → (f : Files) → files ≡ Some f → IsPlanOf pages f.db journal
+  made_plan begins has sound within added f is =
       let entries : has.entries ≡ originals pages f.db = if_some (λ (f : Files). has.entries ≡ map (entry_at (shape_of pages).page f.db) (numbers_upto (is_changed pages) (before_of pages))) files f is has.told in
       record {
         sound = sound;
         some = within.0;
         within = within.1;
+        added = added;
         journal = has.journal ∙ ap₂ (λ (a : List ℕ) (es : List Entry). a ++ flat_map record_of es) begins entries;
         own = own journal (subst EndsSmall (sym has.journal) (journal_ends (shape_of pages).page front has.entries (subst EndsSmall (sym begins) (front_ends (header_for pages))) has.small));
       }

@@ -9,7 +9,7 @@ use Rattle.rollback_journal.specs.Checksum.{checksum_of}
 use Rattle.rollback_journal.specs.Header.{bytes_of, has_magic}
 use Rattle.rollback_journal.specs.Records.{Entry}
 use Rattle.pager_core.specs.declared.pages.Pages.{Pages}
-use Rattle.pager_core.specs.Pages.{before_of, is_changed, page_bytes, shape_of}
+use Rattle.pager_core.specs.Pages.{CountsAdded, before_of, is_changed, page_bytes, shape_of}
 use Rattle.pager_core.specs.Shape.{IsShape}
 
 -- the numbers from 1 to n of which the test holds, in order
@@ -47,6 +47,7 @@ module _ {D : Type 0} where
     pub sound : IsShape (shape_of pages)
     pub some : 1 ≤ before_of pages
     pub within : before_of pages ≤ (shape_of pages).count
+    pub added : CountsAdded pages
     pub journal : plan ≡ journal_of (header_for pages) (originals pages db)
     pub own : has_magic (drop (length plan - 8) plan) ≡ false
 

@@ -4,9 +4,9 @@ ghost use Rattle.alter_disk.specs.Faults.{HasCause, HasCauseOf};
 ghost use Rattle.alter_disk.specs.Rest.{KeepsRest};
 ghost use Rattle.alter_disk.specs.Files.{Files};
 ghost use Rattle.alter_disk.specs.Moments.{ReadsQuietly};
-ghost use Rattle.pager_core.specs.Pages.{SettlesChanges, disk_of, with_disk};
+ghost use Rattle.pager_core.specs.Pages.{FitsDatabase, SettlesChanges, disk_of, with_disk};
 ghost use Rattle.pager_core.specs.Image.{image_of, known_image};
-ghost use Rattle.pager_commit.specs.Ready.{EachStands, IsCommitted, IsOverDatabase, IsReady, StopsBetween};
+ghost use Rattle.pager_commit.specs.Ready.{EachStands, IsCommitted, IsReady, StopsBetween};
 ghost use Rattle.pager_commit.specs.Plan.{IsPlanOf};
 
 use crate::commit::write_all;
@@ -52,7 +52,7 @@ impl Plan {
         requires { D.called (disk_of pages.old) ≡ true }
         ensures done { OnOk result ((base log : List ℕ) (after : List (List ℕ)) → IsReady D.Disk pages.old base log self → EachStands D.Disk pages.old base
             → known_image D.Disk pages.old ≡ Some after → IsCommitted D.Disk after (disk_of pages.new)) }
-        ensures stops { (base log : List ℕ) (before after : List (List ℕ)) → IsReady D.Disk pages.old base log self → IsOverDatabase D.Disk pages.old base
+        ensures stops { (base log : List ℕ) (before after : List (List ℕ)) → IsReady D.Disk pages.old base log self → FitsDatabase D.Disk pages.old base
             → image_of base ≡ Some before → known_image D.Disk pages.old ≡ Some after → StopsBetween D.Disk before after base self (disk_of pages.old) (disk_of pages.new) }
         ensures settled { OnOk result (SettlesChanges D.Disk (with_disk pages.old (disk_of pages.new)) pages.new) }
         ensures kept { OnErr result (pages.new ≡ with_disk pages.old (disk_of pages.new)) }

@@ -6,7 +6,7 @@ ghost use Rattle.alter_disk.specs.Moments.{ReadsQuietly};
 ghost use Rattle.rollback_journal.specs.Header.{bytes_of};
 ghost use Rattle.rollback_journal.specs.Checksum.{checksum_of};
 ghost use Rattle.pager_core.specs.Shape.{IsShape};
-ghost use Rattle.pager_core.specs.Pages.{IsPage, before_of, disk_of, is_changed, shape_of, with_disk};
+ghost use Rattle.pager_core.specs.Pages.{CountsAdded, IsPage, before_of, disk_of, is_changed, shape_of, with_disk};
 ghost use Rattle.pager_commit.specs.Plan.{AddsRecord, header_for, journaled};
 ghost use Rattle.pager_commit.specs.Records.{HasRecords, MayAdd};
 
@@ -24,6 +24,7 @@ pub(crate) fn start_journal<D: Disk>(alloc: Global, pages: &Pages<D>) -> Result<
     ensures journal { IfOk result (λ journal. journal.items ≡ bytes_of (header_for pages.now) true ++ replicate 484 0) }
     ensures sound { IsShape (shape_of pages.now) }
     ensures within { (1 ≤ before_of pages.now) × (before_of pages.now ≤ (shape_of pages.now).count) }
+    ensures added { CountsAdded pages.now }
 {
     let header = Header {
         count: count_records(pages),

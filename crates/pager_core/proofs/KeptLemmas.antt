@@ -1,12 +1,13 @@
 -- What is kept of the pages after a place is written, added, forgotten or settled.
-use Rattle.std.proofs.Common.{◌≡◌, ℕ, zero, suc, ◌+◌, ◌<◌, ◌≤◌, inl, inr, List, [], ◌∷◌, ◌++◌, length, take, drop, map, set, get_or, refl, sym, ap, ◌∙◌, subst, arith, Some, None}
-use Rattle.std.proofs.lemmas.Bool.{cases_lt}
+use Rattle.std.proofs.Common.{◌≡◌, ◌≢◌, ℕ, true, zero, suc, ◌+◌, ◌<◌, ◌≤◌, inl, inr, List, [], ◌∷◌, ◌++◌, length, take, drop, map, set, get_or, refl, sym, ap, ◌∙◌, subst, arith, Some, None, IsSome}
+use Rattle.std.proofs.lemmas.Bool.{cases_eq, cases_lt, false≢true}
 use Rattle.std.proofs.lemmas.List.Edits.{map_over_more}
-use Rattle.std.proofs.lemmas.List.{get_or-take, length-map, length-set, length-take}
+use Rattle.std.proofs.lemmas.List.{get_or-set_other, get_or-set_same, get_or-take, length-map, length-set, length-take}
+use Rattle.alter_bytes.proofs.Fields.{length-overlaid}
 use Rattle.pager_core.specs.declared.file_shape.FileShape.{FileShape}
 use Rattle.pager_core.specs.declared.slot.Slot.{Slot}
 use Rattle.pager_core.specs.declared.slot.Slot.TheVariants.{Unread, Same, Changed}
-use Rattle.pager_core.specs.Slots.{HasLength, forgotten, settled}
+use Rattle.pager_core.specs.Slots.{HasLength, changed_slot, forgotten, is_changed_in, settled, shown_in}
 use Rattle.pager_core.specs.Kept.{AddsUnread, AreKept, Forgets, KeptPages, Settles, slot_of}
 use Rattle.pager_core.specs.Shape.{IsShape}
 use Rattle.std.proofs.Math.Nat.{mul-le-mul_right}
@@ -68,6 +69,7 @@ forgets_kept kept are =
         | inl past ↦ subst P (sym (gone.behind n past)) tt
         | inr within ↦ subst P (sym (gone.slots n within)) (forgotten_length kept.shape.page (slot_of kept n) (are.lengths n))
       ];
+      added = λ n past to. absurd (omega (arith, past, to));
     }
 
 -- the pages that are settled
@@ -89,6 +91,56 @@ settles_kept kept are =
       few = omega (arith, are.few, length-map kept.slots settled);
       none = done.slots 0 ∙ ap settled are.none;
       lengths = λ n. subst P (sym (done.slots n)) (settled_length kept.shape.page (slot_of kept n) (are.lengths n));
+      added = λ n past to. absurd (omega (arith, past, to));
+    }
+
+-- a place that shows a page is one of the list
+shown_there : (slots : List Slot) (n : ℕ) → IsSome (shown_in (get_or slots n Unread)) → n < length slots
+shown_there [] n shown = absurd (cc)
+shown_there (slot ∷ slots) zero shown = omega arith
+shown_there (slot ∷ slots) (suc n) shown = let before = shown_there slots n shown in omega (arith, before)
+
+same_default : (slots : List Slot) (n : ℕ) (d e : Slot) → n < length slots → get_or slots n d ≡ get_or slots n e
+same_default [] n d e there = absurd (omega arith)
+same_default (slot ∷ slots) zero d e there = refl
+same_default (slot ∷ slots) (suc n) d e there = same_default slots n d e (omega arith)
+
+changed_counts : (at : ℕ) (piece : List ℕ) (slot : Slot) → IsSome (shown_in slot) → is_changed_in (changed_slot at piece slot) ≡ true
+changed_counts at piece Unread shown = absurd (cc)
+changed_counts at piece (Same bytes) shown = refl
+changed_counts at piece (Changed bytes original) shown = refl
+
+changed_length : (page at : ℕ) (piece : List ℕ) (slot : Slot) → at + length piece ≤ page → HasLength page slot → HasLength page (changed_slot at piece slot)
+changed_length page at piece Unread fits len = tt
+changed_length page at piece (Same bytes) fits len = (length-overlaid bytes at piece (omega (arith, fits, len)) ∙ len, len)
+changed_length page at piece (Changed bytes original) fits len = (length-overlaid bytes at piece (omega (arith, fits, len.0)) ∙ len.0, len.1)
+
+-- a page that is shown is changed in its place, and counts as such
+pub changed_kept : (kept : KeptPages) (n at : ℕ) (piece : List ℕ) (was slot : Slot) → AreKept kept → at + length piece ≤ kept.shape.page → IsSome (shown_in (slot_of kept n))
+    → was ≡ get_or kept.slots n was → slot ≡ changed_slot at piece was → AreKept (record kept { slots = set kept.slots n slot })
+changed_kept kept n at piece was slot are fits shown is done =
+    let there = shown_there kept.slots n shown in
+    let old : was ≡ slot_of kept n = is ∙ same_default kept.slots n was Unread there in
+    let Shows : Slot → Type 0 = λ s. IsSome (shown_in s) in
+    let Long : Slot → Type 0 = λ s. HasLength kept.shape.page s in
+    let counts : is_changed_in slot ≡ true = ap is_changed_in done ∙ changed_counts at piece was (subst Shows (sym old) shown) in
+    let long : Long slot = subst Long (sym done) (changed_length kept.shape.page at piece was fits (subst Long (sym old) (are.lengths n))) in
+    let here : (m : ℕ) → m ≡ n → get_or (set kept.slots n slot) m Unread ≡ slot = λ m same. ap (λ k. get_or (set kept.slots n slot) k Unread) same ∙ get_or-set_same kept.slots n slot Unread there in
+    let elsewhere : (m : ℕ) → m ≢ n → get_or (set kept.slots n slot) m Unread ≡ slot_of kept m = λ m other. get_or-set_other kept.slots n m slot Unread other in
+    record {
+      shape = are.shape;
+      some = are.some;
+      grown = are.grown;
+      few = omega (arith, are.few, length-set kept.slots n slot);
+      none = elsewhere 0 (λ same. false≢true (subst Shows (ap (slot_of kept) (sym same) ∙ are.none) shown)) ∙ are.none;
+      lengths = λ m. elim (cases_eq m n) [
+        | inl same ↦ subst Long (sym (here m same)) long
+        | inr other ↦ subst Long (sym (elsewhere m other)) (are.lengths m)
+      ];
+      added = λ m past to. elim (cases_eq m n) [
+        | inl same ↦ ap is_changed_in (here m same) ∙ counts
+        | inr other ↦ ap is_changed_in (elsewhere m other) ∙ are.added m past to
+      ];
     }
 
 -- no place was added

@@ -1,5 +1,5 @@
 -- What is kept of the pages of a file.
-use Rattle.std.specs.Prelude.{◌≡◌, ◌≢◌, ◌≤◌, ◌<◌, ℕ, ◌+◌, max, List, [], length, count_by, slice_index_or}
+use Rattle.std.specs.Prelude.{◌≡◌, ◌≢◌, ◌≤◌, ◌<◌, ℕ, ◌+◌, true, max, List, [], length, count_by, slice_index_or}
 use Rattle.pager_core.specs.declared.file_shape.FileShape.{FileShape}
 use Rattle.pager_core.specs.declared.slot.Slot.{Slot}
 use Rattle.pager_core.specs.declared.slot.Slot.TheVariants.{Unread}
@@ -22,6 +22,10 @@ slot_of kept n = slice_index_or kept.slots n Unread
 abbrev pub changed_pages : KeptPages → ℕ
 changed_pages kept = count_by is_changed_in kept.slots
 
+-- each page that was not there before the changes counts as changed
+abbrev pub CountsAdded : KeptPages → Type 0
+CountsAdded kept = (n : ℕ) → kept.before < n → n ≤ kept.shape.count → is_changed_in (slot_of kept n) ≡ true
+
 -- what holds of the pages that are kept
 pub record AreKept (kept : KeptPages) : Type 0 where
   pub shape : IsShape kept.shape
@@ -30,6 +34,7 @@ pub record AreKept (kept : KeptPages) : Type 0 where
   pub few : length kept.slots ≤ kept.shape.count + 1
   pub none : slot_of kept 0 ≡ Unread
   pub lengths : (n : ℕ) → HasLength kept.shape.page (slot_of kept n)
+  pub added : CountsAdded kept
 
 -- the same is kept of each page
 pub record KeepsAll (old new : KeptPages) : Type 0 where

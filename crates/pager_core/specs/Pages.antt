@@ -1,5 +1,5 @@
 -- The pages of a file over its disk, as far as they are known.
-use Rattle.std.specs.Prelude.{◌≡◌, ◌≢◌, ◌≤◌, ℕ, ◌-◌, ◌*◌, Bool, true, false, List, [], ◌++◌, length, take, drop, replicate, Option, Some, IsSome, IsSomeAnd, option_map, unwrap_or}
+use Rattle.std.specs.Prelude.{◌≡◌, ◌≢◌, ◌≤◌, ◌<◌, ℕ, ◌-◌, ◌*◌, Bool, true, false, List, [], ◌++◌, length, take, drop, replicate, Option, Some, IsSome, IsSomeAnd, option_map, unwrap_or}
 use Rattle.std.specs.Option.{option_or}
 use Rattle.alter_bytes.specs.Field.{overlaid}
 use Rattle.alter_disk.specs.declared.disk.Disk.{Ghosts}
@@ -62,6 +62,10 @@ module _ {D : Type 0} where
   -- the page counts as changed
   abbrev pub is_changed : Pages D → ℕ → Bool
   is_changed pages n = is_changed_in (slot_of pages.kept n)
+
+  -- each page that was not there before the changes counts as changed
+  abbrev pub CountsAdded : Pages D → Type 0
+  CountsAdded pages = (n : ℕ) → before_of pages < n → n ≤ (shape_of pages).count → is_changed pages n ≡ true
 
   -- the page's bytes in the database, where the disk tells them
   abbrev pub told : Ghosts D → Pages D → ℕ → Option (List ℕ)

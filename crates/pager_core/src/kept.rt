@@ -29,7 +29,7 @@ impl Model for Kept {
 }
 
 impl Kept {
-    ghost use Rattle.pager_core.specs.Kept.{Forgets, KeepsAll, Puts, Settles, changed_pages, slot_of, unread};
+    ghost use Rattle.pager_core.specs.Kept.{CountsAdded, Forgets, KeepsAll, Puts, Settles, changed_pages, slot_of, unread};
 
     pub(crate) fn new(alloc: Global, shape: FileShape) -> Kept
         requires { IsShape shape }
@@ -52,6 +52,7 @@ impl Kept {
     pub(crate) fn before(&self) -> u32
         ensures before { result ≡ self.now.before }
         ensures within { (1 ≤ result) × (result ≤ self.now.shape.count) }
+        ensures added { CountsAdded self.now }
     {
         self.before
     }
@@ -102,6 +103,7 @@ impl Kept {
     pub(crate) fn keep(&mut self, n: u32, bytes: Vec<u8>)
         requires some { 1 ≤ n }
         requires there { n < length self.old.slots }
+        requires unread { is_some (shown_in (slot_of self.old n)) ≡ false }
         requires extent { length bytes.items ≡ self.old.shape.page }
         ensures { Puts n (Slot.Same bytes.items) self.old self.new }
     {

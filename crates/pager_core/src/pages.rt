@@ -5,7 +5,7 @@ ghost use Rattle.alter_disk.specs.Faults.{HasCause, HasCauseOf};
 ghost use Rattle.alter_disk.specs.Rest.{KeepsRest};
 ghost use Rattle.alter_disk.specs.Moments.{ChangesFile, ReadsQuietly};
 ghost use Rattle.pager_core.specs.Shape.{IsShape};
-ghost use Rattle.pager_core.specs.Pages.{ChangesPage, ForgetsChanges, IsPage, KeepsKnown, KeepsNoMore, KeepsOthers, SettlesChanges, StayAll, before_of, bytes_of, dirty_of, disk_of, is_changed, page_bytes, place_of, shape_of, shown, unread_pages, with_disk};
+ghost use Rattle.pager_core.specs.Pages.{ChangesPage, CountsAdded, ForgetsChanges, IsPage, KeepsKnown, KeepsNoMore, KeepsOthers, SettlesChanges, StayAll, before_of, bytes_of, dirty_of, disk_of, is_changed, page_bytes, place_of, shape_of, shown, unread_pages, with_disk};
 ghost use Rattle.pager_core.specs.contracts.pages.Pages.{the_row};
 ghost use Rattle.std.specs.Borrow.{Lends, follows_so, sem};
 ghost use mathlib.Core.Option.{none};
@@ -55,6 +55,7 @@ impl<D: Disk> Pages<D> {
     pub fn before(&self) -> u32
         ensures before { result ≡ before_of self.now }
         ensures within { (1 ≤ result) × (result ≤ (shape_of self.now).count) }
+        ensures added { CountsAdded self.now }
     {
         self.kept.before()
     }

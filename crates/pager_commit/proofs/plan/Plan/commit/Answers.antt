@@ -16,16 +16,16 @@ returns-clause-done g c = λ base log after ready stands is.
     })
 
 pub returns-in_err-write_all-clause-stops : goal.returns-in_err-write_all-clause-stops
-returns-in_err-write_all-clause-stops g c = λ base log before after ready over is_before is_after.
+returns-in_err-write_all-clause-stops g c = λ base log before after ready fits is_before is_after.
     let pages = c.args.pages.now in
     let through = subst (λ l. GoesThrough g.D.Disk pages base l (disk_of c.write_all.new.pages)) (c.as_slice.ensures.value ∙ c.self.view_is) (c.write_all.ensures.stops base log ready.rests ready.cold) in
     let Room : List ℕ → Type 0 = λ l. length l ≤ 2 ^ 30 in
-    stops_between g.D.Disk pages base log c.args.self ready over (subst Room c.self.view_is c.self.invariant.2) before after is_before is_after _ through
+    stops_between g.D.Disk pages base log c.args.self ready fits (subst Room c.self.view_is c.self.invariant.2) before after is_before is_after _ through
 
 pub returns-clause-stops : goal.returns-clause-stops
-returns-clause-stops g c = λ base log before after ready over is_before is_after.
+returns-clause-stops g c = λ base log before after ready fits is_before is_after.
     let pages = c.args.pages.now in
     let through = subst (λ l. GoesThrough g.D.Disk pages base l (disk_of c.write_all.new.pages)) (c.as_slice.ensures.value ∙ c.self.view_is) (c.write_all.ensures.stops base log ready.rests ready.cold) in
     let Room : List ℕ → Type 0 = λ l. length l ≤ 2 ^ 30 in
-    stops_between g.D.Disk pages base log c.args.self ready over (subst Room c.self.view_is c.self.invariant.2) before after is_before is_after _
+    stops_between g.D.Disk pages base log c.args.self ready fits (subst Room c.self.view_is c.self.invariant.2) before after is_before is_after _
     (subst (GoesThrough g.D.Disk pages base c.args.self) (sym c.settle.ensures.stays) through)

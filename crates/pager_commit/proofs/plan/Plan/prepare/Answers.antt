@@ -7,4 +7,4 @@ invariant_of-result g c =
     made_size c.args.pages.now (g.D.Disk.files (disk_of c.args.pages.now)) _ _ c.in_ok-journal.ensures.journal c.in_ok-add_records.ensures.added c.start_journal.ensures.sound c.start_journal.ensures.within.1
 
 pub returns-clause-plan : goal.returns-clause-plan
-returns-clause-plan g c = λ f is. made_plan c.args.pages.now (g.D.Disk.files (disk_of c.args.pages.now)) _ _ c.in_ok-journal.ensures.journal c.in_ok-add_records.ensures.added c.start_journal.ensures.sound c.start_journal.ensures.within f is
+returns-clause-plan g c = λ f is. made_plan c.args.pages.now (g.D.Disk.files (disk_of c.args.pages.now)) _ _ c.in_ok-journal.ensures.journal c.in_ok-add_records.ensures.added c.start_journal.ensures.sound c.start_journal.ensures.within c.start_journal.ensures.added f is
