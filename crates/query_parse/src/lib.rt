@@ -1,4 +1,4 @@
-//! Reads a whole text as an expression or as a select: the one tree that spells it, or why there is none.
+//! Reads a whole text as an expression or as a select: the one tree that spells it, or why none is given.
 #![tactic(auto)]
 
 mod error;
