@@ -50,7 +50,11 @@ pub fn nested_select(
 
 /// Sources that nest less deep than `left`.
 #[cycle(nested)]
-fn nested_sources(alloc: Global, cursor: &mut Cursor<'_>, left: usize) -> Result<Sources, ReadError>
+pub fn nested_sources(
+    alloc: Global,
+    cursor: &mut Cursor<'_>,
+    left: usize,
+) -> Result<Sources, ReadError>
     ensures { Gives (λ sort. (read_at sort left).sources) result cursor.old cursor.new }
 {
     let Some(left) = left.checked_sub(1) else {
