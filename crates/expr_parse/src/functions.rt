@@ -15,7 +15,7 @@ use sql_expr::{
 };
 use sql_reader::{Cursor, Mark, ReadError};
 use sql_token::Keyword;
-use sqlite_items::Items;
+use sqlite_items::{Boxed, Items};
 use std::alloc::Global;
 
 /// `name "(" [arguments] ")" [FILTER "(" WHERE expr ")"] [OVER (name | window)]`
@@ -24,7 +24,7 @@ pub fn call<T: Trees>(
     trees: &T,
     alloc: Global,
     cursor: &mut Cursor<'_>,
-) -> Result<Call<Expr>, ReadError>
+) -> Result<Boxed<Call<Expr>>, ReadError>
     requires ready { T.ready trees.now }
     ensures { GivesAt (T.left trees.now) read_call result cursor.old cursor.new }
 {
@@ -32,12 +32,13 @@ pub fn call<T: Trees>(
     let arguments = call_parens(trees, alloc, cursor)?;
     let filter = opt_filter(trees, alloc, cursor)?;
     let over = opt_over(trees, alloc, cursor)?;
-    Ok(Call {
+    let call = Call {
         name,
         arguments,
         filter,
         over,
-    })
+    };
+    Ok(Boxed::new(alloc, call)?)
 }
 
 /// `"(" [arguments] ")"`
@@ -205,7 +206,7 @@ pub fn case<T: Trees>(
     trees: &T,
     alloc: Global,
     cursor: &mut Cursor<'_>,
-) -> Result<Case<Expr>, ReadError>
+) -> Result<Boxed<Case<Expr>>, ReadError>
     requires ready { T.ready trees.now }
     ensures { GivesAt (T.left trees.now) read_case result cursor.old cursor.new }
 {
@@ -215,14 +216,15 @@ pub fn case<T: Trees>(
     let more = more_whens(trees, alloc, cursor)?;
     let otherwise = opt_after(trees, alloc, cursor, Keyword::Else)?;
     let end = cursor.word(Keyword::End)?;
-    Ok(Case {
+    let case = Case {
         case,
         subject,
         first,
         more,
         otherwise,
         end,
-    })
+    };
+    Ok(Boxed::new(alloc, case)?)
 }
 
 /// `[expr]`
@@ -287,7 +289,7 @@ pub fn cast<T: Trees>(
     trees: &T,
     alloc: Global,
     cursor: &mut Cursor<'_>,
-) -> Result<Cast<Expr>, ReadError>
+) -> Result<Boxed<Cast<Expr>>, ReadError>
     requires ready { T.ready trees.now }
     ensures { GivesAt (T.left trees.now) read_cast result cursor.old cursor.new }
 {
@@ -297,14 +299,15 @@ pub fn cast<T: Trees>(
     let as_word = cursor.word(Keyword::As)?;
     let column_type = opt_type(alloc, cursor)?;
     let closing = cursor.sign(Mark::Closing)?;
-    Ok(Cast {
+    let cast = Cast {
         cast,
         opening,
         expr,
         as_word,
         column_type,
         closing,
-    })
+    };
+    Ok(Boxed::new(alloc, cast)?)
 }
 
 /// `IGNORE | action "," expr`
@@ -351,11 +354,11 @@ pub fn raise<T: Trees>(
     trees: &T,
     alloc: Global,
     cursor: &mut Cursor<'_>,
-) -> Result<Raise<Expr>, ReadError>
+) -> Result<Boxed<Raise<Expr>>, ReadError>
     requires ready { T.ready trees.now }
     ensures { GivesAt (T.left trees.now) read_raise result cursor.old cursor.new }
 {
     let raise = cursor.word(Keyword::Raise)?;
     let action = raise_parens(trees, alloc, cursor)?;
-    Ok(Raise { raise, action })
+    Ok(Boxed::new(alloc, Raise { raise, action })?)
 }

@@ -27,7 +27,7 @@ pub trait Trees {
         ensures found { GivesAt (left self.now) (λ _ inner. inner.select) result cursor.old cursor.new };
 
     /// Sources.
-    fn sources(&self, alloc: Global, cursor: &mut Cursor<'_>) -> Result<Sources, ReadError>
+    fn sources(&self, alloc: Global, cursor: &mut Cursor<'_>) -> Result<Boxed<Sources>, ReadError>
         requires ready { ready self.now }
         ensures found { GivesAt (left self.now) (λ _ inner. inner.sources) result cursor.old cursor.new };
 }
@@ -45,7 +45,7 @@ impl<E, S, F> Trees for Handed<E, S, F>
 where
     E: Fn(Global, &mut Cursor<'_>, usize) -> Result<Expr, ReadError>,
     S: Fn(Global, &mut Cursor<'_>, usize) -> Result<Boxed<Select>, ReadError>,
-    F: Fn(Global, &mut Cursor<'_>, usize) -> Result<Sources, ReadError>,
+    F: Fn(Global, &mut Cursor<'_>, usize) -> Result<Boxed<Sources>, ReadError>,
 {
     ghost left = { λ handed. handed.left };
 
@@ -62,7 +62,7 @@ where
         (self.select)(alloc, cursor, self.left)
     }
 
-    fn sources(&self, alloc: Global, cursor: &mut Cursor<'_>) -> Result<Sources, ReadError> {
+    fn sources(&self, alloc: Global, cursor: &mut Cursor<'_>) -> Result<Boxed<Sources>, ReadError> {
         (self.sources)(alloc, cursor, self.left)
     }
 }

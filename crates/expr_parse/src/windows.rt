@@ -11,7 +11,7 @@ use sql_expr::{
 };
 use sql_reader::{Cursor, Mark, ReadError};
 use sql_token::Keyword;
-use sqlite_items::Items;
+use sqlite_items::{Boxed, Items};
 use std::alloc::Global;
 
 /// `[WORD expr]`
@@ -248,7 +248,7 @@ pub fn window<T: Trees>(
     trees: &T,
     alloc: Global,
     cursor: &mut Cursor<'_>,
-) -> Result<Window<Expr>, ReadError>
+) -> Result<Boxed<Window<Expr>>, ReadError>
     requires ready { T.ready trees.now }
     ensures { GivesAt (T.left trees.now) read_window result cursor.old cursor.new }
 {
@@ -258,14 +258,15 @@ pub fn window<T: Trees>(
     let order = opt_order(trees, alloc, cursor)?;
     let frame = opt_frame(trees, alloc, cursor)?;
     let closing = cursor.sign(Mark::Closing)?;
-    Ok(Window {
+    let window = Window {
         opening,
         base,
         partition,
         order,
         frame,
         closing,
-    })
+    };
+    Ok(Boxed::new(alloc, window)?)
 }
 
 /// `name AS window`

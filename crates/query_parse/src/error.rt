@@ -1,10 +1,10 @@
-//! Why a text has no tree.
+//! Why no tree is given.
 
 use sql_reader::ReadError;
 use std::alloc::AllocError;
 use thiserror::Error;
 
-/// Why a text has no tree.
+/// Why no tree is given.
 #[derive(Debug, Drop, Error)]
 pub enum ParseError {
     #[error("out of memory")]

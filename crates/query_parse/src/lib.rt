@@ -1,4 +1,4 @@
-//! Reads a whole text as an expression or as a select: the one tree that spells it, or why there is none.
+//! Reads a whole text as an expression or as a select: the one tree that spells it, or why none is given.
 #![tactic(auto)]
 
 mod error;
@@ -8,5 +8,5 @@ mod tests;
 mod whole;
 
 pub use error::ParseError;
-pub use nested::{nested_expr, nested_select, nested_sources};
+pub use nested::{nested_expr, nested_select};
 pub use whole::{check_nesting, parse_expr, parse_select};

@@ -50,11 +50,11 @@ pub fn nested_select(
 
 /// Sources that nest less deep than `left`.
 #[cycle(nested)]
-pub fn nested_sources(
+fn nested_sources(
     alloc: Global,
     cursor: &mut Cursor<'_>,
     left: usize,
-) -> Result<Sources, ReadError>
+) -> Result<Boxed<Sources>, ReadError>
     ensures { Gives (λ sort. (read_at sort left).sources) result cursor.old cursor.new }
 {
     let Some(left) = left.checked_sub(1) else {

@@ -124,7 +124,7 @@ fn select_arm<T: Trees>(
     trees: &T,
     alloc: Global,
     cursor: &mut Cursor<'_>,
-) -> Result<SelectArm, ReadError>
+) -> Result<Boxed<SelectArm>, ReadError>
     requires ready { T.ready trees.now }
     ensures { GivesAt (T.left trees.now) read_select_arm result cursor.old cursor.new }
 {
@@ -136,7 +136,7 @@ fn select_arm<T: Trees>(
     let group = opt_by(trees, alloc, cursor, Keyword::Group)?;
     let having = opt_after(trees, alloc, cursor, Keyword::Having)?;
     let windows = opt_windows(trees, alloc, cursor)?;
-    Ok(SelectArm {
+    let arm = SelectArm {
         select,
         quantifier,
         items,
@@ -145,7 +145,8 @@ fn select_arm<T: Trees>(
         group,
         having,
         windows,
-    })
+    };
+    Ok(Boxed::new(alloc, arm)?)
 }
 
 /// `[FROM sources]`
@@ -154,7 +155,7 @@ fn opt_from<T: Trees>(
     trees: &T,
     alloc: Global,
     cursor: &mut Cursor<'_>,
-) -> Result<Option<After<Sources>>, ReadError>
+) -> Result<Option<After<Boxed<Sources>>>, ReadError>
     requires ready { T.ready trees.now }
     ensures { GivesAt (T.left trees.now) read_opt_from result cursor.old cursor.new }
 {

@@ -22,13 +22,13 @@ pub fn sources_level<T: Trees>(
     trees: &T,
     alloc: Global,
     cursor: &mut Cursor<'_>,
-) -> Result<Sources, ReadError>
+) -> Result<Boxed<Sources>, ReadError>
     requires ready { T.ready trees.now }
     ensures { GivesAt (T.left trees.now) read_sources_level result cursor.old cursor.new }
 {
     let first = table_source(trees, alloc, cursor)?;
     let more = joined_sources(trees, alloc, cursor)?;
-    Ok(Sources { first, more })
+    Ok(Boxed::new(alloc, Sources { first, more })?)
 }
 
 /// `{join source [ON expr | USING "(" names ")"]}`
@@ -203,7 +203,7 @@ fn sources_parens<T: Trees>(
     ensures { GivesAt (T.left trees.now) read_sources_parens result cursor.old cursor.new }
 {
     let opening = cursor.sign(Mark::Opening)?;
-    let inner = Boxed::new(alloc, inner_sources(trees, alloc, cursor)?)?;
+    let inner = inner_sources(trees, alloc, cursor)?;
     let closing = cursor.sign(Mark::Closing)?;
     Ok(InParens {
         opening,
@@ -218,7 +218,7 @@ fn inner_sources<T: Trees>(
     trees: &T,
     alloc: Global,
     cursor: &mut Cursor<'_>,
-) -> Result<Sources, ReadError>
+) -> Result<Boxed<Sources>, ReadError>
     requires ready { T.ready trees.now }
     ensures { GivesAt (T.left trees.now) read_inner_sources result cursor.old cursor.new }
 {

@@ -9,7 +9,7 @@ use query_reading::opt_names;
 use sql_expr::{Commas, Cte, NextItem, Select, With};
 use sql_reader::{Cursor, Mark, ReadError};
 use sql_token::Keyword;
-use sqlite_items::Items;
+use sqlite_items::{Boxed, Items};
 use std::alloc::Global;
 
 /// `[WITH [RECURSIVE] ctes]`
@@ -18,7 +18,7 @@ pub fn opt_with<T: Trees>(
     trees: &T,
     alloc: Global,
     cursor: &mut Cursor<'_>,
-) -> Result<Option<With<Select>>, ReadError>
+) -> Result<Option<Boxed<With<Select>>>, ReadError>
     requires ready { T.ready trees.now }
     ensures { GivesAt (T.left trees.now) read_opt_with result cursor.old cursor.new }
 {
@@ -34,7 +34,7 @@ fn with<T: Trees>(
     trees: &T,
     alloc: Global,
     cursor: &mut Cursor<'_>,
-) -> Result<With<Select>, ReadError>
+) -> Result<Boxed<With<Select>>, ReadError>
     requires ready { T.ready trees.now }
     ensures { GivesAt (T.left trees.now) read_with result cursor.old cursor.new }
 {
@@ -43,11 +43,12 @@ fn with<T: Trees>(
     }
     let with_word = cursor.word(Keyword::With)?;
     let ctes = plain_ctes(trees, alloc, cursor)?;
-    Ok(With {
+    let with = With {
         with_word,
         recursive: None,
         ctes,
-    })
+    };
+    Ok(Boxed::new(alloc, with)?)
 }
 
 /// `WITH RECURSIVE ctes`
@@ -56,18 +57,19 @@ fn with_recursive<T: Trees>(
     trees: &T,
     alloc: Global,
     cursor: &mut Cursor<'_>,
-) -> Result<With<Select>, ReadError>
+) -> Result<Boxed<With<Select>>, ReadError>
     requires ready { T.ready trees.now }
     ensures { GivesAt (T.left trees.now) read_with_recursive result cursor.old cursor.new }
 {
     let with_word = cursor.word(Keyword::With)?;
     let recursive = cursor.word(Keyword::Recursive)?;
     let ctes = ctes(trees, alloc, cursor)?;
-    Ok(With {
+    let with = With {
         with_word,
         recursive: Some(recursive),
         ctes,
-    })
+    };
+    Ok(Boxed::new(alloc, with)?)
 }
 
 /// `ctes`, of which the first name is no RECURSIVE.

@@ -176,7 +176,7 @@ call_arguments-map g h m at (CallArguments'.Exprs distinct exprs order) =
     (by-map (term_tokens g) (term_tokens h) (term_map m) (term-map g h m at)) order i
 
 abbrev pub over_map : {A B : Type 0} → (A → B) → Over A → Over B
-over_map m x = (Shapes.former-Operand-Call-0-at-100).map _ _ m x
+over_map m x = (Shapes.former-Operand-Call-0-at-101).map _ _ m x
 
 pub over-map : {A B : Type 0} (g : B → List Token) (h : A → List Token) (m : A → B) → ((x : A) → g (m x) ≡ h x)
     → (x : Over A) → over_tokens g (over_map m x) ≡ over_tokens h x

@@ -7,7 +7,7 @@ use crate::spell_all;
 use crate::spelled::Spelled;
 use crate::window::{Term, Window};
 use sql_token::Token;
-use sqlite_items::Items;
+use sqlite_items::{Boxed, Items};
 use std::alloc::AllocError;
 
 /// `"*" | [DISTINCT] exprs [ORDER BY terms]`
@@ -44,9 +44,15 @@ impl<E: Spelled> Spelled for CallArguments<E> {
 #[derive(Drop)]
 pub enum Over<E> {
     /// `OVER name`
-    Name { over: Token, name: Token },
+    Name {
+        over: Token,
+        name: Token,
+    },
     /// `OVER window`
-    Window { over: Token, window: Window<E> },
+    Window {
+        over: Token,
+        window: Boxed<Window<E>>,
+    },
 }
 
 impl<E: Spelled> Spelled for Over<E> {

@@ -182,7 +182,7 @@ pub enum Operand {
     /// `column-use`
     Column(ColumnUse),
     /// `call`
-    Call(Call<Expr>),
+    Call(Boxed<Call<Expr>>),
     /// `"(" exprs ")"`
     Exprs(InParens<Commas<Expr>>),
     /// `[EXISTS] "(" select ")"`
@@ -191,11 +191,11 @@ pub enum Operand {
         select: InParens<Boxed<Select>>,
     },
     /// `CASE [expr] when {when} [ELSE expr] END`
-    Case(Case<Expr>),
+    Case(Boxed<Case<Expr>>),
     /// `CAST "(" expr AS [type] ")"`
-    Cast(Cast<Expr>),
+    Cast(Boxed<Cast<Expr>>),
     /// `RAISE "(" (IGNORE | action "," expr) ")"`
-    Raise(Raise<Expr>),
+    Raise(Boxed<Raise<Expr>>),
 }
 
 impl Spelled for Operand {

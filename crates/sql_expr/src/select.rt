@@ -164,7 +164,7 @@ pub struct SelectArm {
     pub select: Token,
     pub quantifier: Option<Token>,
     pub items: Commas<ResultItem<Expr>>,
-    pub from: Option<After<Sources>>,
+    pub from: Option<After<Boxed<Sources>>>,
     pub filter: Option<After<Expr>>,
     pub group: Option<By<Expr>>,
     pub having: Option<After<Expr>>,
@@ -194,7 +194,7 @@ impl Spelled for SelectArm {
 #[derive(Drop)]
 pub enum Arm {
     /// `SELECT ..`
-    Select(SelectArm),
+    Select(Boxed<SelectArm>),
     /// `VALUES rows`
     Values {
         values: Token,
@@ -243,7 +243,7 @@ impl Spelled for CompoundArm {
 #[cycle(tree)]
 #[derive(Drop)]
 pub struct Select {
-    pub with_clause: Option<With<Select>>,
+    pub with_clause: Option<Boxed<With<Select>>>,
     pub arm: Arm,
     pub compounds: Items<CompoundArm>,
     pub order: Option<By<Term<Expr>>>,

@@ -4,6 +4,7 @@ use crate::lists::{After, By, TokenPair};
 use crate::spell_all;
 use crate::spelled::Spelled;
 use sql_token::Token;
+use sqlite_items::Boxed;
 use std::alloc::AllocError;
 
 /// `expr [ASC|DESC] [NULLS (FIRST|LAST)]`
@@ -155,7 +156,7 @@ impl<E: Spelled> Spelled for Window<E> {
 pub struct NamedWindow<E> {
     pub name: Token,
     pub as_word: Token,
-    pub window: Window<E>,
+    pub window: Boxed<Window<E>>,
 }
 
 impl<E: Spelled> Spelled for NamedWindow<E> {
