@@ -43,7 +43,7 @@ pub fn parse_select(alloc: Global, text: &[u8], tokens: &[Token]) -> Result<Sele
 }
 
 /// Fails where the tokens are nested too deep.
-fn check_nesting(alloc: Global, text: &[u8], tokens: &[Token]) -> Result<(), ParseError>
+pub fn check_nesting(alloc: Global, text: &[u8], tokens: &[Token]) -> Result<(), ParseError>
     ensures depth { TellsDepth text.now tokens.now result }
     ensures syntax { OnSyntax result ⊥ }
 {
