@@ -14,7 +14,7 @@ use Rattle.pager_core.specs.declared.file_shape.FileShape.{FileShape}
 use Rattle.pager_core.specs.declared.pages.Pages.{Pages}
 use Rattle.pager_core.specs.Header.{number_at, page_size}
 use Rattle.pager_core.specs.Image.{all_upto, image_of, known_image, with_last}
-use Rattle.pager_core.specs.Pages.{FitsDatabase, ChangesPage, ForgetsChanges, SettlesChanges, bytes_of, disk_of, known, page_bytes, shape_of, shown, with_disk}
+use Rattle.pager_core.specs.Pages.{ChangesPage, FitsDatabase, ForgetsChanges, SettlesChanges, bytes_of, disk_of, known, page_bytes, shape_of, shown, with_disk}
 use Rattle.pager_core.specs.Shape.{IsShape}
 use Rattle.pager_core.proofs.Fits.{unchanged_known}
 use Rattle.pager_core.proofs.WriteLemmas.{length-page}
@@ -93,7 +93,7 @@ module _ {D : Type 0} (disk : Ghosts D) where
 
       planned_new : IsPlanOf new clean.base plan
       planned_new =
-          let again : IsPlanOf (with_disk mid (disk_of new)) clean.base plan = record { sound = planned.sound; some = planned.some; within = planned.within; journal = planned.journal; own = planned.own } in
+          let again : IsPlanOf (with_disk mid (disk_of new)) clean.base plan = record { sound = planned.sound; some = planned.some; within = planned.within; added = planned.added; journal = planned.journal; own = planned.own } in
           subst (λ (p : Pages D). IsPlanOf p clean.base plan) (sym kept) again
 
       shown_first : shown mid 1 ≡ Some page
