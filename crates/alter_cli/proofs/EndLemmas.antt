@@ -1,5 +1,5 @@
 -- What holds at the end of a call that ran its commands or stopped.
-use Rattle.std.proofs.Common.{◌≡◌, ◌≢◌, ℕ, Bool, true, false, ◌⊎◌, inl, inr, Option, Some, None, Result, Ok, Err, OnOk, IfErr, IsErrAnd, List, sym, ◌∙◌, subst}
+use Rattle.std.proofs.Common.{◌≡◌, ◌≢◌, ℕ, Bool, true, false, ◌⊎◌, inl, inr, Option, Some, None, Result, Ok, Err, OnOk, IfErr, IsErrAnd, List, sym, ap, ◌∙◌, subst}
 use Rattle.alter_disk.specs.Files.{Files}
 use Rattle.alter_disk.specs.Changes.{IfTold}
 use Rattle.alter_disk.specs.Outside.{AnyRose, Rises}
@@ -116,6 +116,13 @@ module _ {Image Command : Type 0} (rules : Rules Image Command) (rose : Rises) (
   end_used (Ok all_done) status text files mid now why end is = no_other all_done status statuses.Usage end.0 (λ e. cc) (λ e. cc) is
   end_used (Err stop) status text files mid now why (inl same, told) is = stop_used text files stop why (sym same ∙ is)
   end_used (Err stop) status text files mid now why (inr fault, told) is = let e = sym fault.0 ∙ is in cc
+
+-- a call that ends as no fault did not stop by a failure
+pub end_faultless : (Part : Type 0) (ran : Result Bool Stop) (status : Status) (mid now : Option (List ℕ)) → IsEnd Part ran status mid now
+    → status ≢ statuses.Fault → (stop : Stop) → stop_status stop ≡ statuses.Fault → ran ≢ Err stop
+end_faultless Part (Ok all_done) status mid now end none stop fault is = cc
+end_faultless Part (Err why) status mid now (inl same, told) none stop fault is = let e : why ≡ stop = cc in none (same ∙ ap stop_status e ∙ fault)
+end_faultless Part (Err why) status mid now (inr failed, told) none stop fault is = none failed.0
 
 -- a call that ends with a script's status stopped with it
 pub end_script_stop : (Part : Type 0) (ran : Result Bool Stop) (status : Status) (mid now : Option (List ℕ)) → IsEnd Part ran status mid now

@@ -1,12 +1,13 @@
-use Rattle.std.proofs.Common.{inl, inr, map, string_bytes, arith}
+use Rattle.std.proofs.Common.{inl, inr, map, string_bytes, refl, ◌∙◌, arith}
 use Rattle.alter_disk.specs.Faults.{Rose}
 use Rattle.alter_disk.specs.Outside.{Span, rises, span}
+use Rattle.alter_cli.specs.declared.stop.Stop.TheVariants.{Unread, Unreadable, Unwritten, Unprinted}
 use Rattle.alter_cli.specs.Ending.{EndsByFile, EndsByRun, EndsByScript, EndsComplete, EndsMisused, EndsPerformed, EndsStopped, EndsUnwritten}
 use Rattle.alter_cli.specs.First.{first_rules}
 use Rattle.alter_cli.specs.Left.{left_on}
 use Rattle.alter_cli.specs.Outcome.{file_of}
 use Rattle.alter_cli.proofs.CauseLemmas.{completes_told}
-use Rattle.alter_cli.proofs.EndLemmas.{end_cause, end_file, end_performed, end_printed, end_run, end_script, end_script_stop, end_used}
+use Rattle.alter_cli.proofs.EndLemmas.{end_cause, end_faultless, end_file, end_performed, end_printed, end_run, end_script, end_script_stop, end_used}
 use Rattle.alter_cli.proofs.FinishLemmas.{if_none, if_some, misused_told, rose_before, rose_later}
 use Rattle.alter_cli.proofs.Printed.{printed_misused}
 use Rattle.alter_cli.proofs.perform.sqlalter.Given.{Over}
@@ -43,7 +44,7 @@ End_sunk g c = Rose (g.K.Sink.faults c.perform-ran.new.out) (g.K.Sink.faults c.f
 first : (g : Over) (c : goal.After-finish-status g) → Ran_sunk g c → (rises (whole g c)).sink
 first g c rose =
     rose_later (g.K.Sink.faults c.args.out.now) (g.K.Sink.faults c.perform-ran.new.out) (g.K.Sink.faults c.finish-status.new.out) rose
-    c.finish-status.ensures.later
+    c.finish-status.ensures.counts.later
 
 later : (g : Over) (c : goal.After-finish-status g) → End_sunk g c → (rises (whole g c)).sink
 later g c rose =
@@ -107,9 +108,22 @@ returns-clause-usage g c is =
 
 pub returns-clause-cause : goal.returns-clause-cause
 returns-clause-cause g c =
-    end_cause first_rules (rises (whole g c)) (Ran_sunk g c) (End_sunk g c) c.perform-ran.result.result c.finish-status.result
-    (g.S.Source.left c.args.script.now) (g.D.Disk.files c.args.disk) (g.K.Sink.written c.perform-ran.new.out) (g.K.Sink.written c.finish-status.new.out)
-    (first g c) (later g c) c.perform-ran.ensures.cause c.finish-status.ensures.ended
+    let counts = c.perform-ran.ensures.counts in
+    let end = c.finish-status.ensures in
+    record {
+      rose = end_cause first_rules (rises (whole g c)) (Ran_sunk g c) (End_sunk g c) c.perform-ran.result.result c.finish-status.result
+          (g.S.Source.left c.args.script.now) (g.D.Disk.files c.args.disk) (g.K.Sink.written c.perform-ran.new.out) (g.K.Sink.written c.finish-status.new.out)
+          (first g c) (later g c) c.perform-ran.ensures.cause end.ended;
+      only = λ none.
+          let by = end_faultless (End_sunk g c) c.perform-ran.result.result c.finish-status.result (g.K.Sink.written c.perform-ran.new.out)
+              (g.K.Sink.written c.finish-status.new.out) end.ended none in
+          record {
+            source = counts.source.only (by Unread refl);
+            reading = counts.reading.only (by Unreadable refl);
+            writing = counts.writing.only (by Unwritten refl);
+            sink = end.counts.only none ∙ counts.printing.only (by Unprinted refl);
+          };
+    }
 
 pub returns-clause-printed : goal.returns-clause-printed
 returns-clause-printed g c =
@@ -137,6 +151,6 @@ returns-clause-kept g c =
         source = kept.counts.source;
         reading = kept.counts.reading;
         writing = kept.counts.writing;
-        sink = omega (arith, kept.counts.sink, c.finish-status.ensures.later);
+        sink = omega (arith, kept.counts.sink, c.finish-status.ensures.counts.later);
       };
     }

@@ -23,7 +23,9 @@ loop-command-init g c = record {
   number = refl;
   printed = gave_none (g.K.Sink.written c.args.out.now);
   stays = stays_none g.D.Disk (disk_of c.args.session);
-  sink = omega arith;
+  reading = refl;
+  writing = refl;
+  sink = refl;
 }
 
 pub returns-in-Err-clause-stop : goal.returns-in-Err-clause-stop
@@ -87,7 +89,9 @@ loop-command-preserved g c =
       printed = gave_more given had now c.loop-command.command-index (c.loop-command.number + 1) verdict c.loop-command.all_done c.if-all_done.all_done
           (ap (λ n. n + 1) inv.number) all c.in-Ok.ensures.line inv.printed;
       stays = stays_on g.D.Disk (disk_of c.args.session) (disk_of c.loop-command.session) (disk_of session) inv.stays c.in-Ok.ensures.stays;
-      sink = omega (arith, inv.sink, c.run_command.ensures.sink);
+      reading = c.in-Ok.ensures.cause.reading.only (λ is. cc) ∙ inv.reading;
+      writing = c.in-Ok.ensures.cause.writing.only (λ is. cc) ∙ inv.writing;
+      sink = c.in-Ok.ensures.cause.printing.only (λ is. cc) ∙ inv.sink;
     }
 
 pub returns-clause-ran : goal.returns-clause-ran
