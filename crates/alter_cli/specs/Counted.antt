@@ -3,7 +3,7 @@ use Rattle.std.specs.Prelude.{◌≡◌, ◌≢◌, ◌≤◌, ℕ, Result, Ok, 
 use Rattle.alter_disk.specs.declared.disk.Disk as disks
 use Rattle.alter_disk.specs.declared.sink.Sink as sinks
 use Rattle.alter_disk.specs.Faults.{HasCauseOf}
-use Rattle.alter_disk.specs.Outside.{AnyRose, Span, rises}
+use Rattle.alter_disk.specs.Outside.{AnyRose, Rises, Span, rises}
 use Rattle.alter_cli.specs.declared.halted.Halted.{Halted}
 use Rattle.alter_cli.specs.declared.status.Status.{Status}
 use Rattle.alter_cli.specs.declared.status.Status.TheVariants.{Fault}
@@ -38,11 +38,32 @@ pub record EndsCounted (before now : ℕ) (status : Status) : Type 0 where
   pub later : before ≤ now
   pub only : status ≢ Fault → now ≡ before
 
+-- the count of the source's faults stayed, and those of the disk's readings and of its writings
+abbrev pub SourceStays : Span → Type 0
+SourceStays span = span.now.source_faults ≡ span.before.source_faults
+
+abbrev pub ReadingStays : Span → Type 0
+ReadingStays span = span.now.read_faults ≡ span.before.read_faults
+
+abbrev pub WritingStays : Span → Type 0
+WritingStays span = span.now.write_faults ≡ span.before.write_faults
+
+-- which counts rose, of the source and of the disk without the other two
+abbrev pub rises_alone : Span → Rises
+rises_alone span =
+    let rose = rises span in
+    record {
+      source = rose.source × ReadingStays span × WritingStays span;
+      reading = rose.reading × SourceStays span × WritingStays span;
+      writing = rose.writing × SourceStays span × ReadingStays span;
+      sink = rose.sink;
+    }
+
 -- no count rose
 pub record NoneRose (span : Span) : Type 0 where
-  pub source : span.now.source_faults ≡ span.before.source_faults
-  pub reading : span.now.read_faults ≡ span.before.read_faults
-  pub writing : span.now.write_faults ≡ span.before.write_faults
+  pub source : SourceStays span
+  pub reading : ReadingStays span
+  pub writing : WritingStays span
   pub sink : span.now.sink_faults ≡ span.before.sink_faults
 
 -- a fault is a failure that was counted, and a failure that was counted is a fault
