@@ -25,7 +25,7 @@ use Rattle.alter_cli.specs.Ending.{WhereSinkTells}
 use Rattle.alter_cli.specs.First.{first_rules}
 use Rattle.alter_cli.specs.Left.{Each, EachCrash, Left, left_on}
 use Rattle.alter_cli.specs.StopOf.{stop_of_way}
-use Rattle.alter_cli.specs.Stops.{GaveLines, IsRunStop, MayHave, NotRun, StoppedAt}
+use Rattle.alter_cli.specs.Stops.{GaveLines, IsRunStop, NotRun, OpensAround, StoppedAt}
 use Rattle.alter_cli.proofs.OpenLemmas.{crash_since, rest_each}
 use Rattle.alter_cli.proofs.Printed.{GaveSo, gave_front, gave_some}
 use Rattle.alter_cli.proofs.Reached.{IsNext, Reached, reached_still, torn_at, unprinted}
@@ -75,15 +75,15 @@ module _ {D : Type 0} (disk : Ghosts D) where
       (only_now : (d : D) (c : Files) → disk.left_since d (disk.moment d) c → disk.may_leave d c) where
     -- what a crash may leave of a command that was not ended
     pub written_each : (image : Image) (session : Session D) (d : D) (command : Command) → Holds disk image session
-        → Leaves disk (disk_of session) d (MayHave first_rules image command) → EachCrash (left_on disk d) (MayHave first_rules image command)
+        → Leaves disk (disk_of session) d (OpensAround first_rules image command) → EachCrash (left_on disk d) (OpensAround first_rules image command)
     written_each image session d command holds run c left =
         ⊎_elim (λ before. inl ((holds_each image session holds).crash c before)) (λ now. now)
-        (crash_since disk counts_now only_now (disk_of session) d (MayHave first_rules image command) run c left)
+        (crash_since disk counts_now only_now (disk_of session) d (OpensAround first_rules image command) run c left)
 
     -- a command that failed
     pub failed_run : (Sunk : Type 0) (session : Session D) (d : D) (way : Way) (number : ℕ) (command : Command) (had : Option (List ℕ))
         → IsQuiet disk (disk_of session) (outcomes.Failed d way) → HasWay {T = Unit} disk (disk_of session) d (Err way)
-        → ((image : Image) → Holds disk image session → Leaves disk (disk_of session) d (MayHave first_rules image command))
+        → ((image : Image) → Holds disk image session → Leaves disk (disk_of session) d (OpensAround first_rules image command))
         → ((image : Image) → Holds disk image session → Applied disk image command (outcomes.Failed d way))
         → NotRun first_rules (ReadFailed disk (disk_of session) d) (WriteFailed disk (disk_of session) d) Sunk (ReadsQuietly disk (disk_of session) d) (λ image. Holds disk image session) number command
         (left_on disk d) had had (stop_of_way way)

@@ -13,7 +13,7 @@ ghost use Rattle.alter_cli.specs.Ending.{WhereSinkTells};
 ghost use Rattle.alter_cli.specs.First.{first_rules};
 ghost use Rattle.alter_cli.specs.Left.{left_on};
 ghost use Rattle.alter_cli.specs.Opened.{disk_turned};
-ghost use Rattle.alter_cli.specs.Stops.{GaveLines, IsReachedBy, IsRunStop, Makes, MayHave, NotRun, RanEach, StoppedAt};
+ghost use Rattle.alter_cli.specs.Stops.{GaveLines, IsReachedBy, IsRunStop, Makes, NotRun, OpensAround, RanEach, StoppedAt};
 
 use crate::halted::Halted;
 use crate::opening::stop_of_way;
@@ -57,7 +57,7 @@ fn run_command<D: Disk, K: Sink>(
     ensures stop { IfErr result (λ halted. NotRun first_rules (ReadFailed D.Disk (disk_of session) halted.disk) (WriteFailed D.Disk (disk_of session) halted.disk)
         (SinkFailed K.Sink out.old out.new) (ReadsQuietly D.Disk (disk_of session) halted.disk) (λ image. Holds D.Disk image session) number command.now (left_on D.Disk halted.disk)
         (K.written out.old) (K.written out.new) halted.stop) }
-    ensures stops { (image : Image) → Holds D.Disk image session → Leaves D.Disk (disk_of session) (disk_turned result) (MayHave first_rules image command.now) }
+    ensures stops { (image : Image) → Holds D.Disk image session → Leaves D.Disk (disk_of session) (disk_turned result) (OpensAround first_rules image command.now) }
     ensures stays { Stays D.Disk (disk_of session) (disk_turned result) }
     ensures cause { HasRunCauses D.Disk K.Sink (disk_of session) (disk_turned result) out.old out.new (or_stop result) }
 {

@@ -6,7 +6,7 @@ use Rattle.plain_schema.specs.Verdicts.{is_done}
 use Rattle.alter_session.specs.Session.{Holds, disk_of}
 use Rattle.alter_cli.specs.First.{first_rules}
 use Rattle.alter_cli.specs.Left.{left_on}
-use Rattle.alter_cli.specs.Stops.{IsReachedBy, MayHave}
+use Rattle.alter_cli.specs.Stops.{IsReachedBy, OpensAround}
 use Rattle.alter_disk.proofs.Moments.{goes_far, reads_none, reads_on, started, stays_none, stays_on, weaker}
 use Rattle.alter_cli.proofs.Printed.{gave_more, gave_none}
 use Rattle.alter_cli.proofs.FirstRun.{closed_each, reached_stop, reads_refused}
@@ -49,7 +49,7 @@ returns-in-Err-clause-stops g c = λ image holds.
     let next = is_next c.args.commands.now c.loop-command.command-index c.loop-command.number c.command-item.result inv.number c.loop-command-test.true c.command-item.is in
     let reached = inv.reached image holds in
     goes_far g.D.Disk (disk_of c.args.session) (disk_of c.loop-command.session) d (IsReachedBy first_rules image c.args.commands.now) (inv.stops image holds)
-    (weaker g.D.Disk (disk_of c.loop-command.session) d (MayHave first_rules reached.last c.command-item.result) (IsReachedBy first_rules image c.args.commands.now)
+    (weaker g.D.Disk (disk_of c.loop-command.session) d (OpensAround first_rules reached.last c.command-item.result) (IsReachedBy first_rules image c.args.commands.now)
     (may_reach first_rules (ReadsQuietly g.D.Disk (disk_of c.args.session) (disk_of c.loop-command.session)) (λ i. Holds g.D.Disk i c.loop-command.session) image c.args.commands.now (g.K.Sink.written c.args.out.now) c.loop-command.command-index
     (c.loop-command.number + 1) c.command-item.result (g.K.Sink.written c.loop-command.out) (g.K.Sink.written c.run_command.new.out) c.loop-command.all_done next reached)
     (c.in-Err.ensures.stops reached.last reached.of))
@@ -80,7 +80,7 @@ loop-command-preserved g c =
           let reached = inv.reached image holds in
           goes_far g.D.Disk (disk_of c.args.session) (disk_of c.loop-command.session) (disk_of session) (IsReachedBy first_rules image c.args.commands.now)
           (inv.stops image holds)
-          (weaker g.D.Disk (disk_of c.loop-command.session) (disk_of session) (MayHave first_rules reached.last c.command-item.result)
+          (weaker g.D.Disk (disk_of c.loop-command.session) (disk_of session) (OpensAround first_rules reached.last c.command-item.result)
           (IsReachedBy first_rules image c.args.commands.now)
           (may_reach first_rules (ReadsQuietly g.D.Disk (disk_of c.args.session) (disk_of c.loop-command.session)) (λ i. Holds g.D.Disk i c.loop-command.session) image c.args.commands.now given c.loop-command.command-index
           (c.loop-command.number + 1) c.command-item.result had now c.loop-command.all_done next reached) (c.in-Ok.ensures.stops reached.last reached.of));
