@@ -19,11 +19,11 @@ use Rattle.query_reading.proofs.TypeLaws.{opt_type_reads}
 use Rattle.query_reading.specs.Levels.{read_at}
 use Rattle.table_reading.proofs.ColumnLaws.{default_value_reads, expr_parens_reads, opt_generated_reads, plain_cons_reads}
 use Rattle.table_reading.proofs.KeyLaws.{given_at}
-use Rattle.table_reading.proofs.TableLaws.{indexed_reads}
+use Rattle.table_reading.proofs.TableLaws.{indexed_reads, next_table_cons_reads}
 use Rattle.table_reading.proofs.WordLaws.{spelled_takes}
 use Rattle.table_reading.specs.Columns.{column, column_cons, cons_goes_on, cons_starts, generated_cons, next_column, opt_storage, read_column, read_column_cons, read_column_constraints, read_generated_cons, read_next_column, read_opt_storage}
 use Rattle.table_reading.specs.Handed.{over}
-use Rattle.table_reading.specs.Tables.{read_next_indexed}
+use Rattle.table_reading.specs.Tables.{read_next_indexed, read_next_table_cons}
 use Rattle.table_reading.specs.Words.{stored}
 use Rattle.sql_token.specs.declared.keyword.Keyword.TheVariants as K
 
@@ -32,6 +32,10 @@ module _ (n : ℕ) (other : List ℕ) where
   pub next_indexed_takes : TakesToken (read_next_indexed (sort_of other) n (read_at (sort_of other) n))
   unfolding read_next_indexed
   next_indexed_takes = let laws = next_item_reads (indexed_reads (given_at other n)) in laws.size refl
+
+  -- [","] table-cons
+  pub next_table_cons_takes : TakesToken (read_next_table_cons (sort_of other) n (read_at (sort_of other) n))
+  next_table_cons_takes = let laws = next_table_cons_reads (given_at other n) in laws.size refl
 
 module _ (text other : List ℕ) where
   -- [STORED|VIRTUAL]
