@@ -6,7 +6,7 @@ ghost use Rattle.page_cells.specs.Cells.{HasCells};
 ghost use Rattle.page_cells.specs.Layout.{IsUsable};
 ghost use Rattle.page_cells.specs.declared.cell.Cell.{Cell};
 ghost use Rattle.page_cells.specs.declared.kind.Kind.TheVariants.{TableLeaf};
-ghost use Rattle.schema_rows.specs.Record.{IsRecord};
+ghost use Rattle.record_codec.specs.Record.{IsRecord};
 ghost use Rattle.schema_rows.specs.Schema.{row_values};
 ghost use Rattle.schema_rows.specs.declared.schema.SchemaRow.{SchemaRow};
 ghost use Rattle.plain_schema.specs.FirstPage.{HoldsRow, HoldRows, HoldsRows, IsEmptyTable, IsLocal, IsOnPage, leaf_of};
