@@ -1,13 +1,14 @@
 -- What holds at the end of a call that ran its commands or stopped.
-use Rattle.std.proofs.Common.{◌≡◌, ◌≢◌, ℕ, Bool, true, false, ◌⊎◌, inl, inr, Option, Some, None, Result, Ok, Err, OnOk, IfErr, IsErrAnd, List, sym, ◌∙◌, subst}
+use Rattle.std.proofs.Common.{◌≡◌, ◌≢◌, ℕ, Bool, true, false, ◌⊎◌, inl, inr, Option, Some, None, Result, Ok, Err, OnOk, IfErr, IsErrAnd, List, sym, ap, ◌∙◌, subst}
 use Rattle.alter_disk.specs.Files.{Files}
 use Rattle.alter_disk.specs.Changes.{IfTold}
-use Rattle.alter_disk.specs.Outside.{AnyRose, Rises}
+use Rattle.alter_disk.specs.Outside.{AnyRose, Rises, Span, rises}
 use Rattle.alter_cli.specs.declared.stop.Stop.{Stop}
-use Rattle.alter_cli.specs.declared.stop.Stop.TheVariants.{Misused, Unread, Unreadable, Unwritten, Unprinted}
+use Rattle.alter_cli.specs.declared.stop.Stop.TheVariants.{Misused, TooLong, Unspelled, Unread, Unserved, Unreadable, Unwritten, Unprinted, Memory}
 use Rattle.alter_cli.specs.declared.status.Status.{Status}
 use Rattle.alter_cli.specs.declared.status.Status.TheVariants as statuses
 use Rattle.alter_cli.specs.Causes.{CanRun, IsExactly, IsFileRefused, IsUnserved}
+use Rattle.alter_cli.specs.Counted.{HasCauses, rises_alone}
 use Rattle.alter_cli.specs.Ending.{WhereSinkTells, WhereTold}
 use Rattle.alter_cli.specs.Left.{Left}
 use Rattle.alter_cli.specs.Outcome.{IsRunStatus, Performed, Printed, run_status}
@@ -116,6 +117,28 @@ module _ {Image Command : Type 0} (rules : Rules Image Command) (rose : Rises) (
   end_used (Ok all_done) status text files mid now why end is = no_other all_done status statuses.Usage end.0 (λ e. cc) (λ e. cc) is
   end_used (Err stop) status text files mid now why (inl same, told) is = stop_used text files stop why (sym same ∙ is)
   end_used (Err stop) status text files mid now why (inr fault, told) is = let e = sym fault.0 ∙ is in cc
+
+-- the cause of a stop rose alone
+pub caused_alone : {Image Command : Type 0} (rules : Rules Image Command) (span : Span) (First : Type 0) (text : Option (List ℕ)) (files : Option Files) (ran : Result Bool Stop)
+    → HasCauses span ran → IfErr ran (IsCaused rules (record (rises span) { sink = First }) text files)
+    → IfErr ran (IsCaused rules (record (rises_alone span) { sink = First }) text files)
+caused_alone rules span First text files (Ok all_done) counts why = tt
+caused_alone rules span First text files (Err TooLong) counts why = why
+caused_alone rules span First text files (Err Unspelled) counts why = why
+caused_alone rules span First text files (Err Unread) counts why = (why, counts.reading.only (λ is. cc), counts.writing.only (λ is. cc))
+caused_alone rules span First text files (Err (Unserved code)) counts why = why
+caused_alone rules span First text files (Err Unreadable) counts why = ((why.0, counts.source.only (λ is. cc), counts.writing.only (λ is. cc)), why.1)
+caused_alone rules span First text files (Err Unwritten) counts why = ((why.0, counts.source.only (λ is. cc), counts.reading.only (λ is. cc)), why.1)
+caused_alone rules span First text files (Err Unprinted) counts why = why
+caused_alone rules span First text files (Err Memory) counts why = tt
+caused_alone rules span First text files (Err Misused) counts why = absurd why
+
+-- a call that ends as no fault did not stop by a failure
+pub end_faultless : (Part : Type 0) (ran : Result Bool Stop) (status : Status) (mid now : Option (List ℕ)) → IsEnd Part ran status mid now
+    → status ≢ statuses.Fault → (stop : Stop) → stop_status stop ≡ statuses.Fault → ran ≢ Err stop
+end_faultless Part (Ok all_done) status mid now end none stop fault is = cc
+end_faultless Part (Err why) status mid now (inl same, told) none stop fault is = let e : why ≡ stop = cc in none (same ∙ ap stop_status e ∙ fault)
+end_faultless Part (Err why) status mid now (inr failed, told) none stop fault is = none failed.0
 
 -- a call that ends with a script's status stopped with it
 pub end_script_stop : (Part : Type 0) (ran : Result Bool Stop) (status : Status) (mid now : Option (List ℕ)) → IsEnd Part ran status mid now

@@ -5,7 +5,7 @@ use Rattle.alter_disk.specs.declared.way.Way.{Way}
 use Rattle.alter_disk.specs.declared.way.Way.TheVariants.{Read, Write}
 use Rattle.alter_disk.specs.Changes.{IfTold}
 use Rattle.alter_disk.specs.Files.{Files}
-use Rattle.alter_disk.specs.Moments.{Leaves, ReadsQuietly}
+use Rattle.alter_disk.specs.Moments.{HasWay, Leaves, ReadsQuietly}
 use Rattle.alter_disk.specs.Uses.{ReadFailed, WriteFailed}
 use Rattle.rollback_journal.specs.Recovery.{recovered}
 use Rattle.rollback_journal.specs.Standing.{standing_by}
@@ -17,7 +17,7 @@ use Rattle.plain_schema.specs.Image.{Image}
 use Rattle.plain_schema.specs.Verdicts.{is_done}
 use Rattle.alter_session.specs.declared.session.Session.{Session}
 use Rattle.alter_session.specs.declared.answer.Outcome.TheVariants as outcomes
-use Rattle.alter_session.specs.Applying.{Applied, HasWay, IsQuiet, ReadsUnlessDone}
+use Rattle.alter_session.specs.Applying.{Applied, IsQuiet, ReadsUnlessDone}
 use Rattle.alter_session.specs.Session.{Holds, disk_of}
 use Rattle.alter_cli.specs.declared.stop.Stop.{Stop}
 use Rattle.alter_cli.specs.declared.stop.Stop.TheVariants.{Unreadable, Unwritten, Unprinted, Memory}
@@ -25,7 +25,7 @@ use Rattle.alter_cli.specs.Ending.{WhereSinkTells}
 use Rattle.alter_cli.specs.First.{first_rules}
 use Rattle.alter_cli.specs.Left.{Each, EachCrash, Left, left_on}
 use Rattle.alter_cli.specs.StopOf.{stop_of_way}
-use Rattle.alter_cli.specs.Stops.{GaveLines, IsRunStop, MayHave, NotRun, StoppedAt}
+use Rattle.alter_cli.specs.Stops.{GaveLines, IsRunStop, NotRun, OpensAround, StoppedAt}
 use Rattle.alter_cli.proofs.OpenLemmas.{crash_since, rest_each}
 use Rattle.alter_cli.proofs.Printed.{GaveSo, gave_front, gave_some}
 use Rattle.alter_cli.proofs.Reached.{IsNext, Reached, reached_still, torn_at, unprinted}
@@ -75,22 +75,22 @@ module _ {D : Type 0} (disk : Ghosts D) where
       (only_now : (d : D) (c : Files) → disk.left_since d (disk.moment d) c → disk.may_leave d c) where
     -- what a crash may leave of a command that was not ended
     pub written_each : (image : Image) (session : Session D) (d : D) (command : Command) → Holds disk image session
-        → Leaves disk (disk_of session) d (MayHave first_rules image command) → EachCrash (left_on disk d) (MayHave first_rules image command)
+        → Leaves disk (disk_of session) d (OpensAround first_rules image command) → EachCrash (left_on disk d) (OpensAround first_rules image command)
     written_each image session d command holds run c left =
         ⊎_elim (λ before. inl ((holds_each image session holds).crash c before)) (λ now. now)
-        (crash_since disk counts_now only_now (disk_of session) d (MayHave first_rules image command) run c left)
+        (crash_since disk counts_now only_now (disk_of session) d (OpensAround first_rules image command) run c left)
 
     -- a command that failed
     pub failed_run : (Sunk : Type 0) (session : Session D) (d : D) (way : Way) (number : ℕ) (command : Command) (had : Option (List ℕ))
-        → IsQuiet disk (disk_of session) (outcomes.Failed d way) → HasWay disk (disk_of session) (outcomes.Failed d way)
-        → ((image : Image) → Holds disk image session → Leaves disk (disk_of session) d (MayHave first_rules image command))
+        → IsQuiet disk (disk_of session) (outcomes.Failed d way) → HasWay {T = Unit} disk (disk_of session) d (Err way)
+        → ((image : Image) → Holds disk image session → Leaves disk (disk_of session) d (OpensAround first_rules image command))
         → ((image : Image) → Holds disk image session → Applied disk image command (outcomes.Failed d way))
         → NotRun first_rules (ReadFailed disk (disk_of session) d) (WriteFailed disk (disk_of session) d) Sunk (ReadsQuietly disk (disk_of session) d) (λ image. Holds disk image session) number command
         (left_on disk d) had had (stop_of_way way)
     failed_run Sunk session d Read number command had quiet why stops applied =
-        (why, (λ image holds. read_each image session d quiet holds), refl, quiet)
+        (why.reading.failed refl, (λ image holds. read_each image session d quiet holds), refl, quiet)
     failed_run Sunk session d Write number command had quiet why stops applied =
-        (why, (λ image holds. written_each image session d command holds (stops image holds)), refl, applied)
+        (why.writing.failed refl, (λ image holds. written_each image session d command holds (stops image holds)), refl, applied)
 
 -- why not all commands were run
 pub reached_stop : (Reads Writes Sinks Read_all Write_all Sink_all Quiet Still Quiet_all : Type 0) (IsOf : Image → Type 0) (image : Image) (commands : List Command) (given had now : Option (List ℕ))

@@ -1,5 +1,5 @@
 -- The opening of the call's file.
-use Rattle.std.proofs.Common.{◌≡◌, ◌≤◌, ℕ, ◌⊎◌, inl, inr, ⊎_elim, true, Option, Some, None, is_some, IsSomeAnd, refl, sym, ◌∙◌, ap, arith}
+use Rattle.std.proofs.Common.{◌≡◌, ◌≤◌, ℕ, ◌⊎◌, inl, inr, ⊎_elim, true, Option, Some, None, is_some, IsSomeAnd, Err, refl, sym, ◌∙◌, ap, arith}
 use Rattle.alter_disk.specs.declared.disk.Disk.{Ghosts}
 use Rattle.alter_disk.specs.declared.way.Way.TheVariants.{Read, Write}
 use Rattle.alter_disk.specs.Changes.{IfTold}
@@ -13,7 +13,7 @@ use Rattle.plain_schema.specs.Image.{Image}
 use Rattle.alter_session.specs.declared.open_error.OpenError.{OpenError}
 use Rattle.alter_session.specs.declared.open_error.OpenError.TheVariants as errors
 use Rattle.alter_session.specs.declared.session.Session.{Session}
-use Rattle.alter_session.specs.Opening.{HasCause, IsOpenedFrom, IsUnopened, KeepsBytes}
+use Rattle.alter_session.specs.Opening.{HasOpenCauses, IsOpenedFrom, IsUnopened, KeepsBytes}
 use Rattle.alter_session.specs.Serves.{Refuses, Serves}
 use Rattle.alter_session.specs.Session.{Holds, disk_of}
 use Rattle.alter_cli.specs.declared.file_code.FileCode.{FileCode}
@@ -144,7 +144,7 @@ module _ {D : Type 0} (disk : Ghosts D) where
     -- why there is no session behind an opened disk
     pub no_session_for : (old mid new : D) (cause : OpenError) → OpensQuietly disk old mid → is_some (disk.files new) ≡ is_some (disk.files mid)
         → ((f : Files) → disk.files mid ≡ Some f → IsUnopened disk f cause new)
-        → ((f : Files) → disk.files mid ≡ Some f → Leaves disk mid new (λ c. standing c ≡ standing f)) → HasCause disk mid new cause
+        → ((f : Files) → disk.files mid ≡ Some f → Leaves disk mid new (λ c. standing c ≡ standing f)) → HasOpenCauses {T = Session D} disk mid new (Err cause)
         → ((f : Files) → disk.files mid ≡ Some f → recovered f ≡ f → KeepsBytes disk f mid new)
         → NoSession first_rules (ReadFailed disk old new) (WriteFailed disk old new) (left_on disk old) (left_on disk new) (stop_of_error cause)
     no_session_for old mid new cause opens telling un run why kept = at cause un why
@@ -163,12 +163,12 @@ module _ {D : Type 0} (disk : Ghosts D) where
             if_told (disk.files old) (λ f. IsRefusedSo first_rules f code (left_on disk new))
             (λ f told. let both = is f (opens.only.files ∙ told) in refused_so f code new (told_new f told) both.0 both.1)
 
-        at : (cause : OpenError) → ((f : Files) → disk.files mid ≡ Some f → IsUnopened disk f cause new) → HasCause disk mid new cause
+        at : (cause : OpenError) → ((f : Files) → disk.files mid ≡ Some f → IsUnopened disk f cause new) → HasOpenCauses {T = Session D} disk mid new (Err cause)
             → NoSession first_rules (ReadFailed disk old new) (WriteFailed disk old new) (left_on disk old) (left_on disk new) (stop_of_error cause)
         at (errors.Memory fault) un why = alike
-        at (errors.Failed Read) un why = (rose_before (disk.read_faults old) (disk.read_faults mid) (disk.read_faults new) opens.only.later why, alike)
+        at (errors.Failed Read) un why = (rose_before (disk.read_faults old) (disk.read_faults mid) (disk.read_faults new) opens.only.later (why.reading.failed refl), alike)
         at (errors.Failed Write) un why =
-            (rose_before (disk.write_faults old) (disk.write_faults mid) (disk.write_faults new) (omega (arith, opens.only.writes_stay)) why, alike)
+            (rose_before (disk.write_faults old) (disk.write_faults mid) (disk.write_faults new) (omega (arith, opens.only.writes_stay)) (why.writing.failed refl), alike)
         at errors.Super un why = refused SuperJournal un
         at (errors.Short page) un why = refused (ShortJournal page) un
         at errors.Journal un why = refused JournalTooLarge un

@@ -15,7 +15,7 @@ use Rattle.alter_cli.specs.Lines.{verdict_lines}
 use Rattle.alter_cli.specs.Outcome.{IfNoneDone}
 use Rattle.alter_cli.specs.Rules.{Rules}
 use Rattle.alter_cli.specs.Run.{Run}
-use Rattle.alter_cli.specs.Stops.{HasLines, IsNear, IsOpenTo, IsReachedBy, Makes, MayHave, RanEach, RanSome, TornAt, UnprintedAt}
+use Rattle.alter_cli.specs.Stops.{HasLines, IsNear, IsOpenTo, IsReachedBy, Makes, OpensAround, RanEach, RanSome, TornAt, UnprintedAt}
 use Rattle.plain_schema.specs.Verdicts.{is_done, verdict_line}
 use Rattle.common_laws.proofs.Lists.{take_one}
 use Rattle.alter_cli.proofs.Grown.{length-run, run-grows, verdict_lines-push}
@@ -178,7 +178,7 @@ module _ {Image Command : Type 0} (rules : Rules Image Command) where
         }
 
     -- the write of the next command was cut short
-    pub torn_at : (after : Left) → ((last : Image) → IsOf last → EachCrash after (MayHave rules last command)) → now ≡ had
+    pub torn_at : (after : Left) → ((last : Image) → IsOf last → EachCrash after (OpensAround rules last command)) → now ≡ had
         → ((last : Image) → IsOf last → (new : Image) × rules.Step last command Done new) → TornAt rules image commands given after now
     torn_at after opens same done = record {
       count = place;
@@ -193,12 +193,12 @@ module _ {Image Command : Type 0} (rules : Rules Image Command) where
         at_place : slice_get commands place ≡ Some command
         at_place = slice_get_read commands (length commands) place command refl next.within next.is
 
-        near : (c : Files) → MayHave rules reached.last command c → IsNear rules commands place reached.last c
+        near : (c : Files) → OpensAround rules reached.last command c → IsNear rules commands place reached.last c
         near c (inl is) = inl is
         near c (inr is) = inr (command, at_place, is)
 
     -- files that the next command may leave open to an image of the run
-    pub may_reach : (c : Files) → MayHave rules reached.last command c → IsReachedBy rules image commands c
+    pub may_reach : (c : Files) → OpensAround rules reached.last command c → IsReachedBy rules image commands c
     may_reach c (inl is) = (place, reached.verdicts, reached.last, reached.run, is)
     may_reach c (inr is) = (
       place + 1,

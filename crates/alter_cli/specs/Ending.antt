@@ -1,5 +1,5 @@
 -- What a call's clauses say, over what was outside before it and is behind it.
-use Rattle.std.specs.Prelude.{◌≡◌, ◌⊎◌, ℕ, Option, Some, is_some, IfNone, IfSome, IsSomeAnd, List}
+use Rattle.std.specs.Prelude.{◌≡◌, ◌⊎◌, ℕ, Option, is_some, IfNone, IfSome, IsSomeAnd, List}
 use Rattle.alter_disk.specs.declared.disk.Disk.{Ghosts}
 use Rattle.alter_disk.specs.Files.{Files}
 use Rattle.alter_disk.specs.Changes.{IfTold}
@@ -9,6 +9,7 @@ use Rattle.alter_cli.specs.declared.status.Status.{Status}
 use Rattle.alter_cli.specs.declared.status.Status.TheVariants.{Fault, File, Script, Usage}
 use Rattle.alter_cli.specs.Causes.{CanRun, Completes, IsExactly, IsFileRefused, IsFrontTaken, IsUnserved}
 use Rattle.alter_session.specs.Opening.{KeepsBytes}
+use Rattle.alter_cli.specs.Counted.{rises_alone}
 use Rattle.alter_cli.specs.Left.{left_on}
 use Rattle.alter_cli.specs.Outcome.{IsOfRun, IsRunStatus, Misused, Performed, Printed, file_of}
 use Rattle.alter_cli.specs.Rules.{Rules}
@@ -31,9 +32,9 @@ IfNameless words P = IfNone (file_of words) P
 abbrev pub WhereSinkTells : Option (List ℕ) → Option (List ℕ) → (List ℕ → List ℕ → Type 0) → Type 0
 WhereSinkTells given now P = IfTold given (λ w. IsSomeAnd now (P w))
 
--- where the sink tells, it was given lines that go with the status and with the counts that rose
+-- where the sink tells, it was given lines that go with the status and with the count that rose alone
 abbrev pub EndsPrinted : Span → Status → Type 0
-EndsPrinted span status = WhereSinkTells span.before.written span.now.written (λ given now. Printed (rises span) given now status)
+EndsPrinted span status = WhereSinkTells span.before.written span.now.written (λ given now. Printed (rises_alone span) given now status)
 
 -- a call without a file's name: the status of usage, or a fault of the sink, and where the sink tells, the usage line
 pub record EndsMisused (span : Span) (status : Status) : Type 0 where

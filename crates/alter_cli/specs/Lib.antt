@@ -3,6 +3,7 @@ pub mod Codes
 pub mod Lines
 pub mod Given
 pub mod Left
+pub mod Counted
 pub mod Rules
 pub mod Run
 pub mod Outcome

@@ -190,8 +190,8 @@ module _ {Image Command : Type 0} (rules : Rules Image Command) where
   IsOpenTo IsOf after = (image : Image) → IsOf image → Each after (rules.OpensTo image)
 
   -- the files open to this image, or to the one after the command, which is done
-  abbrev pub MayHave : Image → Command → Files → Type 0
-  MayHave image command c = rules.OpensTo image c ⊎ ((new : Image) × rules.Step image command Done new × rules.OpensTo new c)
+  abbrev pub OpensAround : Image → Command → Files → Type 0
+  OpensAround image command c = rules.OpensTo image c ⊎ ((new : Image) × rules.Step image command Done new × rules.OpensTo new c)
 
   -- why a command of this number was not run to its end on an image of which the fact holds, by the files and the sink; unless it
   -- is done, the disk was left alone as the fact on it says
@@ -199,7 +199,7 @@ module _ {Image Command : Type 0} (rules : Rules Image Command) where
   NotRun Read Write Sunk Quiet IsOf number command after had has Memory = IsOpenTo IsOf after × (has ≡ had) × Quiet
   NotRun Read Write Sunk Quiet IsOf number command after had has Unreadable = Read × IsOpenTo IsOf after × (has ≡ had) × Quiet
   NotRun Read Write Sunk Quiet IsOf number command after had has Unwritten =
-      Write × ((image : Image) → IsOf image → EachCrash after (MayHave image command)) × (has ≡ had)
+      Write × ((image : Image) → IsOf image → EachCrash after (OpensAround image command)) × (has ≡ had)
       × ((image : Image) → IsOf image → (new : Image) × rules.Step image command Done new)
   NotRun Read Write Sunk Quiet IsOf number command after had has Unprinted =
       Sunk × ((verdict : Verdict) × Makes IsOf command verdict (λ image. Each after (rules.OpensTo image))

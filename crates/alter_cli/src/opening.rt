@@ -1,12 +1,14 @@
 //! The file of the call, opened.
 ghost use Rattle.std.specs.Prelude.{◌≡◌, false, Some, IfErr, IfOk, IfSome};
 ghost use Rattle.alter_disk.specs.Changes.{IfTold};
+ghost use Rattle.alter_disk.specs.Faults.{HasCauseOf};
 ghost use Rattle.alter_disk.specs.Moments.{Leaves};
 ghost use Rattle.alter_disk.specs.Uses.{ReadFailed, WriteFailed};
 ghost use Rattle.rollback_journal.specs.Recovery.{recovered};
 ghost use Rattle.rollback_journal.specs.Standing.{standing};
 ghost use Rattle.alter_session.specs.Opening.{KeepsBytes};
 ghost use Rattle.alter_session.specs.Session.{Holds, IsReady, disk_of};
+ghost use Rattle.alter_cli.specs.Counted.{HasDiskCauses, or_stop};
 ghost use Rattle.alter_cli.specs.First.{first_rules};
 ghost use Rattle.alter_cli.specs.Left.{Each, left_on};
 ghost use Rattle.alter_cli.specs.Opened.{IsUnopened, OpensQuietly, StaysOpen, disk_open};
@@ -51,6 +53,7 @@ fn open<D: Disk>(disk: &mut D, name: &str) -> Result<(), Stop>
     requires name { IfSome (D.label disk.old) (λ known. name.now ≡ known) }
     ensures opens { OpensQuietly D.Disk disk.old disk.new }
     ensures stop { IfErr result (IsUnopened (ReadFailed D.Disk disk.old disk.new)) }
+    ensures cause { HasCauseOf Stop.Unreadable (D.read_faults disk.old) (D.read_faults disk.new) result }
 {
     match disk.open(name) {
         Ok(()) => Ok(()),
@@ -75,6 +78,7 @@ pub fn open_session<D: Disk>(
     ensures stops { IfTold (D.files disk) (λ files. Leaves D.Disk disk (disk_open result) (λ c. standing c ≡ standing files)) }
     ensures unwritten { IfTold (D.files disk) (λ files. recovered files ≡ files → KeepsBytes D.Disk files disk (disk_open result)) }
     ensures stays { StaysOpen D.Disk disk (disk_open result) }
+    ensures cause { HasDiskCauses D.Disk disk (disk_open result) (or_stop result) }
 {
     if let Err(stop) = open(&mut disk, name) {
         return Err(Halted { disk, stop });

@@ -1,9 +1,10 @@
 //! A whole call.
-ghost use Rattle.std.specs.Prelude.{◌≡◌, ◌⊎◌, ◌≤◌, map, IfSome, IfErr, OnOk, IsErrAnd, IsNone, string_bytes, option_map, false};
+ghost use Rattle.std.specs.Prelude.{◌≡◌, ◌⊎◌, map, IfSome, IfErr, OnOk, IsErrAnd, IsNone, string_bytes, option_map, false};
 ghost use Rattle.std.specs.Prelude.{IsSomeAnd};
 ghost use Rattle.alter_disk.specs.Changes.{IfTold};
-ghost use Rattle.alter_disk.specs.Outside.{AnyRose, rises, span};
+ghost use Rattle.alter_disk.specs.Outside.{span};
 ghost use Rattle.alter_disk.specs.Uses.{SinkFailed};
+ghost use Rattle.alter_cli.specs.Counted.{EndsCounted, HasCauses, IsFaultExactly};
 ghost use Rattle.alter_cli.specs.Ending.{EndsByFile, EndsByRun, EndsByScript, EndsComplete, EndsMisused, EndsPerformed, EndsPrinted, EndsStopped, EndsUnwritten, IfNamed, IfNameless, Keeps, WhereSinkTells};
 ghost use Rattle.alter_cli.specs.First.{first_rules};
 ghost use Rattle.alter_cli.specs.Outcome.{file_of};
@@ -50,6 +51,7 @@ fn perform<D: Disk, S: Source, K: Sink>(
     ensures printed { WhereSinkTells (K.written out.old) (K.written out.new) (λ given now. GaveLines (SinkFailed K.Sink out.old out.new) given now result.result) }
     ensures able { OnOk result.result (CanRunTold first_rules (S.left script.old) (D.files disk)) }
     ensures cause { IfErr result.result (StopsBy first_rules (span S.Source D.Disk K.Sink (script.old, disk, out.old) (script.new, result.disk, out.new))) }
+    ensures counts { HasCauses (span S.Source D.Disk K.Sink (script.old, disk, out.old) (script.new, result.disk, out.new)) result.result }
     ensures untouched { IsErrAnd result.result (λ stop. stop_status stop ≡ Status.Script) → result.disk ≡ disk }
     ensures stops { EndsStopped first_rules D.Disk disk result.disk (span S.Source D.Disk K.Sink (script.old, disk, out.old) (script.new, result.disk, out.new)) }
     ensures unwritten { EndsUnwritten first_rules D.Disk disk result.disk }
@@ -77,7 +79,7 @@ fn perform<D: Disk, S: Source, K: Sink>(
 fn stopped<K: Sink>(stop: &Stop, out: &mut K) -> Status
     ensures status { (result ≡ stop_status stop.now) ⊎ ((result ≡ Status.Fault) × SinkFailed K.Sink out.old out.new) }
     ensures told { IfTold (K.written out.old) (λ given. IsSomeAnd (K.written out.new) (IsLast (SinkFailed K.Sink out.old out.new) stop.now result given)) }
-    ensures later { K.faults out.old ≤ K.faults out.new }
+    ensures counts { EndsCounted (K.faults out.old) (K.faults out.new) result }
 {
     match print_last(out, stop) {
         Ok(()) => stop.status(),
@@ -88,7 +90,7 @@ fn stopped<K: Sink>(stop: &Stop, out: &mut K) -> Status
 /// Ends a call that ran its commands or stopped, and gives its status.
 fn finish<K: Sink>(ran: Result<bool, Stop>, out: &mut K) -> Status
     ensures ended { IsEnd (SinkFailed K.Sink out.old out.new) ran result (K.written out.old) (K.written out.new) }
-    ensures later { K.faults out.old ≤ K.faults out.new }
+    ensures counts { EndsCounted (K.faults out.old) (K.faults out.new) result }
 {
     match ran {
         Ok(true) => Status::Done,
@@ -136,9 +138,8 @@ pub fn sqlalter<D: Disk, S: Source, K: Sink>(
     ensures unread { IfNameless (map string_bytes words.now) (script.new ≡ script.old) }
     ensures unopened { IfNameless (map string_bytes words.now) (result.disk ≡ disk) }
 
-    // Whatever is told: a fault has a cause, and so has each line of a fault; what stays.
-    ensures cause { result.status ≡ Status.Fault → AnyRose
-        (rises (span S.Source D.Disk K.Sink (script.old, disk, out.old) (script.new, result.disk, out.new))) }
+    // Whatever is told: a fault has a cause and each cause is a fault, each line of a fault has its cause; what stays.
+    ensures cause { IsFaultExactly (span S.Source D.Disk K.Sink (script.old, disk, out.old) (script.new, result.disk, out.new)) result.status }
     ensures printed { EndsPrinted (span S.Source D.Disk K.Sink (script.old, disk, out.old) (script.new, result.disk, out.new)) result.status }
     ensures untouched { (result.status ≡ Status.Script) ⊎ (result.status ≡ Status.Usage) → result.disk ≡ disk }
     ensures kept { Keeps (span S.Source D.Disk K.Sink (script.old, disk, out.old) (script.new, result.disk, out.new)) }

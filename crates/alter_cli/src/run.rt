@@ -1,5 +1,5 @@
 //! The run of the script's commands.
-ghost use Rattle.std.specs.Prelude.{◌≡◌, ◌≤◌, ◌<◌, ◌^◌, ◌++◌, length, option_map, IfOk, IfErr};
+ghost use Rattle.std.specs.Prelude.{◌≡◌, ◌<◌, ◌^◌, ◌++◌, length, option_map, IfOk, IfErr};
 ghost use Rattle.std.specs.List.{AllByRecursion};
 ghost use Rattle.alter_disk.specs.Moments.{Leaves, ReadsQuietly, Stays};
 ghost use Rattle.alter_disk.specs.Uses.{ReadFailed, SinkFailed, WriteFailed};
@@ -8,11 +8,12 @@ ghost use Rattle.plain_schema.specs.Image.{Image};
 ghost use Rattle.plain_schema.specs.Verdicts.{verdict_line};
 ghost use Rattle.alter_session.specs.Applying.{ReadsUnlessDone};
 ghost use Rattle.alter_session.specs.Session.{Holds, IsReady, disk_of};
+ghost use Rattle.alter_cli.specs.Counted.{HasRunCauses, or_stop};
 ghost use Rattle.alter_cli.specs.Ending.{WhereSinkTells};
 ghost use Rattle.alter_cli.specs.First.{first_rules};
 ghost use Rattle.alter_cli.specs.Left.{left_on};
 ghost use Rattle.alter_cli.specs.Opened.{disk_turned};
-ghost use Rattle.alter_cli.specs.Stops.{GaveLines, IsReachedBy, IsRunStop, Makes, MayHave, NotRun, RanEach, StoppedAt};
+ghost use Rattle.alter_cli.specs.Stops.{GaveLines, IsReachedBy, IsRunStop, Makes, NotRun, OpensAround, RanEach, StoppedAt};
 
 use crate::halted::Halted;
 use crate::opening::stop_of_way;
@@ -56,9 +57,9 @@ fn run_command<D: Disk, K: Sink>(
     ensures stop { IfErr result (λ halted. NotRun first_rules (ReadFailed D.Disk (disk_of session) halted.disk) (WriteFailed D.Disk (disk_of session) halted.disk)
         (SinkFailed K.Sink out.old out.new) (ReadsQuietly D.Disk (disk_of session) halted.disk) (λ image. Holds D.Disk image session) number command.now (left_on D.Disk halted.disk)
         (K.written out.old) (K.written out.new) halted.stop) }
-    ensures stops { (image : Image) → Holds D.Disk image session → Leaves D.Disk (disk_of session) (disk_turned result) (MayHave first_rules image command.now) }
+    ensures stops { (image : Image) → Holds D.Disk image session → Leaves D.Disk (disk_of session) (disk_turned result) (OpensAround first_rules image command.now) }
     ensures stays { Stays D.Disk (disk_of session) (disk_turned result) }
-    ensures sink { K.faults out.old ≤ K.faults out.new }
+    ensures cause { HasRunCauses D.Disk K.Sink (disk_of session) (disk_turned result) out.old out.new (or_stop result) }
 {
     match session.apply(alloc, number, command) {
         Outcome::Done(session, answer) => match print(out, answer.line.as_bytes()) {
@@ -101,7 +102,7 @@ pub fn run_commands<D: Disk, K: Sink>(
     ensures printed { WhereSinkTells (K.written out.old) (K.written out.new) (λ given now. GaveLines (SinkFailed K.Sink out.old out.new) given now result.result) }
     ensures cause { IfErr result.result (IsRunStop (ReadFailed D.Disk (disk_of session) result.disk) (WriteFailed D.Disk (disk_of session) result.disk) (SinkFailed K.Sink out.old out.new)) }
     ensures stays { Stays D.Disk (disk_of session) result.disk }
-    ensures sink { K.faults out.old ≤ K.faults out.new }
+    ensures counts { HasRunCauses D.Disk K.Sink (disk_of session) result.disk out.old out.new result.result }
 {
     let mut number = 0u64;
     let mut all_done = true;

@@ -2,6 +2,7 @@
 ghost use Rattle.std.specs.Prelude.{◌≡◌, ◌≤◌, ◌<◌, ◌+◌, [], ◌^◌, length, drop, Some, IfOk, IfErr, IsErrOf, is_some, IsSomeAnd};
 ghost use Rattle.std.specs.List.{AllByRecursion};
 ghost use Rattle.alter_disk.specs.Changes.{IfTold};
+ghost use Rattle.alter_disk.specs.Faults.{HasCauseOf};
 ghost use Rattle.alter_disk.specs.Uses.{SourceFailed};
 ghost use Rattle.plain_sql.specs.Script.{IsPlainCommand};
 ghost use Rattle.alter_cli.specs.Causes.{IsFrontTaken};
@@ -74,8 +75,7 @@ pub fn read_text<S: Source>(alloc: Global, script: &mut S) -> Result<Vec<u8>, No
     ensures past { IsErrOf result NoText.TooLong → IfTold (S.left script.old) (λ bytes. S.left script.new ≡ Some (drop (SCRIPT_LIMIT + 1) bytes)) }
     ensures told { is_some (S.left script.new) ≡ is_some (S.left script.old) }
     ensures taken { IfTold (S.left script.old) (λ bytes. IsSomeAnd (S.left script.new) (IsFrontTaken bytes)) }
-    ensures failed { IsErrOf result NoText.Failed → SourceFailed S.Source script.old script.new }
-    ensures later { S.faults script.old ≤ S.faults script.new }
+    ensures cause { HasCauseOf NoText.Failed (S.faults script.old) (S.faults script.new) result }
 {
     let mut text = Vec::new(alloc);
     let mut chunk = [0u8; CHUNK];
@@ -98,7 +98,7 @@ pub fn read_commands<S: Source>(alloc: Global, script: &mut S) -> Result<Vec<Com
     ensures told { is_some (S.left script.new) ≡ is_some (S.left script.old) }
     ensures taken { IfTold (S.left script.old) (λ text. IsSomeAnd (S.left script.new) (IsFrontTaken text)) }
     ensures stop { IfErr result (NoScript first_rules (SourceFailed S.Source script.old script.new) (S.left script.old) (S.left script.new)) }
-    ensures later { S.faults script.old ≤ S.faults script.new }
+    ensures cause { HasCauseOf Stop.Unread (S.faults script.old) (S.faults script.new) result }
 {
     let text = read_text(alloc, script)?;
     match read_script(alloc, text.as_slice())? {

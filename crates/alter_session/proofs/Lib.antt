@@ -1,4 +1,5 @@
 pub mod Carried
+pub mod Causes
 pub mod Fronts
 pub mod Headers
 pub mod Holding

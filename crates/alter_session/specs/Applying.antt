@@ -1,10 +1,10 @@
 -- What one command does to a database that is open.
-use Rattle.std.specs.Prelude.{◌≡◌, ◌⊎◌, ℕ, length, string_bytes}
+use Rattle.std.specs.Prelude.{◌≡◌, ◌⊎◌, ℕ, length, string_bytes, Result, Ok, Err}
 use Rattle.alter_disk.specs.declared.disk.Disk.{Ghosts}
+use Rattle.alter_disk.specs.declared.way.Way.{Way}
 use Rattle.alter_disk.specs.declared.way.Way.TheVariants.{Read, Write}
 use Rattle.alter_disk.specs.Files.{Files}
 use Rattle.alter_disk.specs.Moments.{ReadsQuietly}
-use Rattle.alter_disk.specs.Uses.{ReadFailed, WriteFailed}
 use Rattle.pager_core.specs.declared.file_shape.FileShape.{FileShape}
 use Rattle.pager_commit.specs.Opens.{Opens}
 use Rattle.plain_sql.specs.declared.script.Command.{Command}
@@ -102,9 +102,8 @@ module _ {D : Type 0} where
   IsQuiet disk old (Failed d Read) = ReadsQuietly disk old d
   IsQuiet disk old (Failed d Write) = Unit {0}
 
-  -- a failure comes where a call of its kind failed
-  abbrev pub HasWay : Ghosts D → D → Outcome D → Type 0
-  HasWay disk old (Done session answer) = Unit {0}
-  HasWay disk old (Memory session) = Unit {0}
-  HasWay disk old (Failed d Read) = ReadFailed disk old d
-  HasWay disk old (Failed d Write) = WriteFailed disk old d
+  -- the kind of the call that failed, where that is what became of the command
+  abbrev pub failure_of : Outcome D → Result Unit Way
+  failure_of (Done session answer) = Ok tt
+  failure_of (Memory session) = Ok tt
+  failure_of (Failed d way) = Err way

@@ -1,9 +1,9 @@
 -- What a new page 1 makes of the pages of an opened database.
-use Rattle.std.specs.Prelude.{◌≡◌, ℕ, false, List, ◌∷◌, drop, Some}
+use Rattle.std.specs.Prelude.{◌≡◌, ℕ, false, List, ◌∷◌, drop, Some, Result}
 use Rattle.alter_disk.specs.declared.disk.Disk.{Ghosts}
 use Rattle.alter_disk.specs.declared.way.Way.TheVariants.{Read, Write}
+use Rattle.alter_disk.specs.Faults.{HasCauseOf}
 use Rattle.alter_disk.specs.Moments.{ReadsQuietly}
-use Rattle.alter_disk.specs.Uses.{ReadFailed, WriteFailed}
 use Rattle.pager_core.specs.declared.error.PageError.{PageError}
 use Rattle.pager_core.specs.declared.error.PageError.TheVariants as pages
 use Rattle.pager_core.specs.declared.file_shape.FileShape.{FileShape}
@@ -53,11 +53,10 @@ abbrev pub fault_of_page : PageError → Fault
 fault_of_page (pages.Memory fault) = Memory fault
 fault_of_page pages.Failed = Failed Read
 
--- a failure comes where a call of its kind failed
-abbrev pub FailsBy : {D : Type 0} → Ghosts D → D → D → Fault → Type 0
-FailsBy disk old new (Memory fault) = Unit {0}
-FailsBy disk old new (Failed Read) = ReadFailed disk old new
-FailsBy disk old new (Failed Write) = WriteFailed disk old new
+-- a failure names its kind: that count rose where it is the answer, and else it stayed
+pub record HasCauses {D T : Type 0} (disk : Ghosts D) (old new : D) (result : Result T Fault) : Type 0 where
+  pub reading : HasCauseOf (Failed Read) (disk.read_faults old) (disk.read_faults new) result
+  pub writing : HasCauseOf (Failed Write) (disk.write_faults old) (disk.write_faults new) result
 
 -- before the first write the disk was only read, and no page counts as changed
 abbrev pub IsBefore : {D : Type 0} → Ghosts D → Pages D → Pages D → Fault → Type 0

@@ -2,9 +2,9 @@
 use Rattle.std.specs.Prelude.{◌≡◌, ◌⊎◌, ℕ, List, length, take, Some, None, Result, Ok, Err}
 use Rattle.alter_disk.specs.declared.disk.Disk.{Ghosts}
 use Rattle.alter_disk.specs.declared.way.Way.TheVariants.{Read, Write}
+use Rattle.alter_disk.specs.Faults.{HasCauseOf}
 use Rattle.alter_disk.specs.Files.{Files}
 use Rattle.alter_disk.specs.Moments.{AtRest, Leaves}
-use Rattle.alter_disk.specs.Uses.{ReadFailed, WriteFailed}
 use Rattle.rollback_journal.specs.declared.fault.RecoverFault.{RecoverFault}
 use Rattle.rollback_journal.specs.declared.fault.RecoverFault.TheVariants as recoveries
 use Rattle.rollback_journal.specs.Recovery.{recovered}
@@ -45,11 +45,10 @@ abbrev pub error_of_page : PageError → OpenError
 error_of_page (pages.Memory fault) = Memory fault
 error_of_page pages.Failed = Failed Read
 
--- a failure comes where a call of its kind failed
-abbrev pub HasCause : {D : Type 0} → Ghosts D → D → D → OpenError → Type 0
-HasCause disk old new (Failed Read) = ReadFailed disk old new
-HasCause disk old new (Failed Write) = WriteFailed disk old new
-HasCause disk old new cause = Unit {0}
+-- a failure names its kind: that count rose where it is the answer, and else it stayed
+pub record HasOpenCauses {D T : Type 0} (disk : Ghosts D) (old new : D) (result : Result T OpenError) : Type 0 where
+  pub reading : HasCauseOf (Failed Read) (disk.read_faults old) (disk.read_faults new) result
+  pub writing : HasCauseOf (Failed Write) (disk.write_faults old) (disk.write_faults new) result
 
 -- the sizes of a database that is opened
 pub record IsOpenable (shape : FileShape) : Type 0 where
@@ -85,6 +84,11 @@ pub record IsShaped {D : Type 0} (disk : Ghosts D) (f : Files) (shape : FileShap
 abbrev pub disk_after : {D : Type 0} → Result (Session D) (Unopened D) → D
 disk_after (Ok session) = disk_of session
 disk_after (Err unopened) = unopened.disk
+
+-- the session, or why there is none
+abbrev pub opened_or_why : {D : Type 0} → Result (Session D) (Unopened D) → Result (Session D) OpenError
+opened_or_why (Ok session) = Ok session
+opened_or_why (Err unopened) = Err unopened.cause
 
 -- the two files are served, and the session has their image; they are recovered
 pub record IsOpenedFrom {D : Type 0} (disk : Ghosts D) (f : Files) (session : Session D) : Type 0 where

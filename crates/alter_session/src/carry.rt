@@ -7,7 +7,7 @@ ghost use Rattle.plain_schema.specs.declared.verdict.Verdict.TheVariants as verd
 ghost use Rattle.plain_schema.specs.Image.{Image};
 ghost use Rattle.plain_schema.specs.Plan.{verdict_of};
 ghost use Rattle.alter_session.specs.Applying.{PlanFits, PlanGives, ReadsUnlessDone, carried};
-ghost use Rattle.alter_session.specs.Committing.{FailsBy, IsBefore, IsClean, KeepsSizes};
+ghost use Rattle.alter_session.specs.Committing.{HasCauses, IsBefore, IsClean, KeepsSizes};
 
 use crate::commit::commit_page;
 use crate::fault::Fault;
@@ -34,7 +34,7 @@ pub(crate) fn carry_out<D: Disk>(
         → Leaves D.Disk (disk_of pages.old) (disk_of pages.new) (λ c. Opens image c ⊎ Opens (carried plan.now image) c) }
     ensures sizes { KeepsSizes pages.old pages.new }
     ensures stays { Stays D.Disk (disk_of pages.old) (disk_of pages.new) }
-    ensures cause { IfErr result (FailsBy D.Disk (disk_of pages.old) (disk_of pages.new)) }
+    ensures cause { HasCauses D.Disk (disk_of pages.old) (disk_of pages.new) result }
 {
     match plan {
         Plan::Refused(_) => Ok(()),

@@ -4,7 +4,7 @@ ghost use Rattle.alter_disk.specs.Faults.{HasCauseOf};
 ghost use Rattle.alter_disk.specs.Moments.{Leaves, ReadsQuietly, Stays};
 ghost use Rattle.pager_core.specs.Pages.{IsPage, before_of, disk_of, shape_of};
 ghost use Rattle.pager_commit.specs.Opens.{Opens};
-ghost use Rattle.alter_session.specs.Committing.{FailsBy, GivesSizes, IsBefore, IsClean, IsStaged, KeepsSizes, with_first};
+ghost use Rattle.alter_session.specs.Committing.{GivesSizes, HasCauses, IsBefore, IsClean, IsStaged, KeepsSizes, with_first};
 
 use crate::fault::Fault;
 use alter_disk::{Disk, Way};
@@ -50,7 +50,7 @@ pub(crate) fn commit_page<D: Disk>(
         → Leaves D.Disk (disk_of pages.old) (disk_of pages.new) (λ c. Opens image c ⊎ Opens (with_first page.now image) c) }
     ensures sizes { KeepsSizes pages.old pages.new }
     ensures stays { Stays D.Disk (disk_of pages.old) (disk_of pages.new) }
-    ensures cause { IfErr result (FailsBy D.Disk (disk_of pages.old) (disk_of pages.new)) }
+    ensures cause { HasCauses D.Disk (disk_of pages.old) (disk_of pages.new) result }
 {
     let plan = stage(alloc, pages, page)?;
     match plan.commit(pages) {

@@ -4,7 +4,7 @@ ghost use Rattle.alter_disk.specs.Files.{Files};
 ghost use Rattle.alter_disk.specs.Moments.{Leaves, ReadsQuietly, Stays};
 ghost use Rattle.rollback_journal.specs.Recovery.{recovered};
 ghost use Rattle.rollback_journal.specs.Standing.{standing};
-ghost use Rattle.alter_session.specs.Opening.{HasCause, IsOpenable, IsShaped, IsUnopened, IsUnshaped, KeepsBytes, ShapesBytes};
+ghost use Rattle.alter_session.specs.Opening.{HasOpenCauses, IsOpenable, IsShaped, IsUnopened, IsUnshaped, KeepsBytes, ShapesBytes};
 
 use crate::durable::make_durable;
 use crate::open_error::OpenError;
@@ -21,7 +21,7 @@ fn read_shape<D: Disk>(disk: &mut D) -> Result<FileShape, OpenError>
     ensures shaped { IfOk result (λ shape. (f : Files) → D.files disk.old ≡ Some f → ShapesBytes f.db shape) }
     ensures refused { IfErr result (λ cause. (f : Files) → D.files disk.old ≡ Some f → IsUnshaped f.db cause) }
     ensures reads { ReadsQuietly D.Disk disk.old disk.new }
-    ensures cause { IfErr result (HasCause D.Disk disk.old disk.new) }
+    ensures cause { HasOpenCauses D.Disk disk.old disk.new result }
 {
     let Ok(len) = db_len(disk) else {
         return Err(OpenError::Failed(Way::Read));
@@ -46,7 +46,7 @@ pub(crate) fn open_shape<D: Disk>(alloc: Global, disk: &mut D) -> Result<FileSha
     ensures stops { (f : Files) → D.files disk.old ≡ Some f → Leaves D.Disk disk.old disk.new (λ c. standing c ≡ standing f) }
     ensures kept { (f : Files) → D.files disk.old ≡ Some f → recovered f ≡ f → KeepsBytes D.Disk f disk.old disk.new }
     ensures stays { Stays D.Disk disk.old disk.new }
-    ensures cause { IfErr result (HasCause D.Disk disk.old disk.new) }
+    ensures cause { HasOpenCauses D.Disk disk.old disk.new result }
 {
     make_durable(disk)?;
     recover(alloc, disk)?;

@@ -1,14 +1,14 @@
 //! A database that is open.
 ghost use Rattle.std.specs.Prelude.{◌≡◌, ◌<◌, ◌^◌, true, length, Some, IfErr, IfOk};
 ghost use Rattle.alter_disk.specs.Files.{Files};
-ghost use Rattle.alter_disk.specs.Moments.{Leaves, Stays};
+ghost use Rattle.alter_disk.specs.Moments.{HasWay, Leaves, Stays};
 ghost use Rattle.rollback_journal.specs.Recovery.{recovered};
 ghost use Rattle.rollback_journal.specs.Standing.{standing};
 ghost use Rattle.plain_schema.specs.Image.{Image};
 ghost use Rattle.plain_sql.specs.Script.{IsPlainCommand};
-ghost use Rattle.alter_session.specs.Applying.{Applied, HasLine, HasWay, IsAnswer, IsAnswered, IsQuiet, IsUndone, MayHave, ReadsUnlessDone, StaysReady, disk_behind};
-ghost use Rattle.alter_session.specs.Committing.{FailsBy};
-ghost use Rattle.alter_session.specs.Opening.{HasCause, IsOpenedFrom, IsUnopened, KeepsBytes, disk_after};
+ghost use Rattle.alter_session.specs.Applying.{Applied, HasLine, IsAnswer, IsAnswered, IsQuiet, IsUndone, MayHave, ReadsUnlessDone, StaysReady, disk_behind, failure_of};
+ghost use Rattle.alter_session.specs.Committing.{HasCauses};
+ghost use Rattle.alter_session.specs.Opening.{HasOpenCauses, IsOpenedFrom, IsUnopened, KeepsBytes, disk_after, opened_or_why};
 ghost use Rattle.alter_session.specs.Session.{Holds, IsReady, disk_of};
 
 use crate::answer::{Answer, Outcome};
@@ -46,7 +46,7 @@ impl<D: Disk> Session<D> {
         ensures kept { (f : Files) → D.files disk ≡ Some f → recovered f ≡ f → KeepsBytes D.Disk f disk (disk_after result) }
 
         ensures stays { Stays D.Disk disk (disk_after result) }
-        ensures cause { IfErr result (λ u. HasCause D.Disk disk u.disk u.cause) }
+        ensures cause { HasOpenCauses D.Disk disk (disk_after result) (opened_or_why result) }
     {
         let shape = match open_shape(alloc, &mut disk) {
             Ok(shape) => shape,
@@ -85,7 +85,7 @@ impl<D: Disk> Session<D> {
         ensures quiet { IsQuiet D.Disk (disk_of self) result }
 
         ensures stays { Stays D.Disk (disk_of self) (disk_behind result) }
-        ensures cause { HasWay D.Disk (disk_of self) result }
+        ensures cause { HasWay D.Disk (disk_of self) (disk_behind result) (failure_of result) }
     {
         let mut session = self;
         match session.run(alloc, number, command) {
@@ -107,7 +107,7 @@ impl<D: Disk> Session<D> {
         ensures undone { IfErr result (IsUndone D.Disk command.now self.old self.new) }
         ensures stops { (image : Image) → Holds D.Disk image self.old → Leaves D.Disk (disk_of self.old) (disk_of self.new) (MayHave image command.now) }
         ensures stays { Stays D.Disk (disk_of self.old) (disk_of self.new) }
-        ensures cause { IfErr result (FailsBy D.Disk (disk_of self.old) (disk_of self.new)) }
+        ensures cause { HasCauses D.Disk (disk_of self.old) (disk_of self.new) result }
     {
         let plan = self.form.plan(alloc, command)?;
         let verdict = plan.verdict();

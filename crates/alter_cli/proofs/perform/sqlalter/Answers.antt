@@ -1,12 +1,14 @@
-use Rattle.std.proofs.Common.{inl, inr, map, string_bytes, arith}
+use Rattle.std.proofs.Common.{inl, inr, map, string_bytes, refl, arith}
 use Rattle.alter_disk.specs.Faults.{Rose}
 use Rattle.alter_disk.specs.Outside.{Span, rises, span}
+use Rattle.alter_cli.specs.declared.stop.Stop.TheVariants.{Unread, Unreadable, Unwritten, Unprinted}
+use Rattle.alter_cli.specs.Counted.{rises_alone}
 use Rattle.alter_cli.specs.Ending.{EndsByFile, EndsByRun, EndsByScript, EndsComplete, EndsMisused, EndsPerformed, EndsStopped, EndsUnwritten}
 use Rattle.alter_cli.specs.First.{first_rules}
 use Rattle.alter_cli.specs.Left.{left_on}
 use Rattle.alter_cli.specs.Outcome.{file_of}
 use Rattle.alter_cli.proofs.CauseLemmas.{completes_told}
-use Rattle.alter_cli.proofs.EndLemmas.{end_cause, end_file, end_performed, end_printed, end_run, end_script, end_script_stop, end_used}
+use Rattle.alter_cli.proofs.EndLemmas.{caused_alone, end_cause, end_faultless, end_file, end_performed, end_printed, end_run, end_script, end_script_stop, end_used}
 use Rattle.alter_cli.proofs.FinishLemmas.{if_none, if_some, misused_told, rose_before, rose_later}
 use Rattle.alter_cli.proofs.Printed.{printed_misused}
 use Rattle.alter_cli.proofs.perform.sqlalter.Given.{Over}
@@ -22,7 +24,7 @@ returns-in_default-clause-misused g c =
 
 pub returns-in_default-clause-printed : goal.returns-in_default-clause-printed
 returns-in_default-clause-printed g c =
-    printed_misused (rises (span g.S.Source g.D.Disk g.K.Sink (c.args.script.now, c.args.disk, c.args.out.now) (c.args.script.now, c.args.disk, c.stopped-status.new.out))) (g.K.Sink.written c.args.out.now) (g.K.Sink.written c.stopped-status.new.out) c.stopped-status.result
+    printed_misused (rises_alone (span g.S.Source g.D.Disk g.K.Sink (c.args.script.now, c.args.disk, c.args.out.now) (c.args.script.now, c.args.disk, c.stopped-status.new.out))) (g.K.Sink.written c.args.out.now) (g.K.Sink.written c.stopped-status.new.out) c.stopped-status.result
     c.stopped-status.ensures.told
 
 -- the whole call
@@ -43,7 +45,7 @@ End_sunk g c = Rose (g.K.Sink.faults c.perform-ran.new.out) (g.K.Sink.faults c.f
 first : (g : Over) (c : goal.After-finish-status g) → Ran_sunk g c → (rises (whole g c)).sink
 first g c rose =
     rose_later (g.K.Sink.faults c.args.out.now) (g.K.Sink.faults c.perform-ran.new.out) (g.K.Sink.faults c.finish-status.new.out) rose
-    c.finish-status.ensures.later
+    c.finish-status.ensures.counts.later
 
 later : (g : Over) (c : goal.After-finish-status g) → End_sunk g c → (rises (whole g c)).sink
 later g c rose =
@@ -107,15 +109,31 @@ returns-clause-usage g c is =
 
 pub returns-clause-cause : goal.returns-clause-cause
 returns-clause-cause g c =
-    end_cause first_rules (rises (whole g c)) (Ran_sunk g c) (End_sunk g c) c.perform-ran.result.result c.finish-status.result
-    (g.S.Source.left c.args.script.now) (g.D.Disk.files c.args.disk) (g.K.Sink.written c.perform-ran.new.out) (g.K.Sink.written c.finish-status.new.out)
-    (first g c) (later g c) c.perform-ran.ensures.cause c.finish-status.ensures.ended
+    let counts = c.perform-ran.ensures.counts in
+    let end = c.finish-status.ensures in
+    record {
+      rose = end_cause first_rules (rises (whole g c)) (Ran_sunk g c) (End_sunk g c) c.perform-ran.result.result c.finish-status.result
+          (g.S.Source.left c.args.script.now) (g.D.Disk.files c.args.disk) (g.K.Sink.written c.perform-ran.new.out) (g.K.Sink.written c.finish-status.new.out)
+          (first g c) (later g c) c.perform-ran.ensures.cause end.ended;
+      only = λ none.
+          let by = end_faultless (End_sunk g c) c.perform-ran.result.result c.finish-status.result (g.K.Sink.written c.perform-ran.new.out)
+          (g.K.Sink.written c.finish-status.new.out) end.ended none in
+          record {
+            source = counts.source.only (by Unread refl);
+            reading = counts.reading.only (by Unreadable refl);
+            writing = counts.writing.only (by Unwritten refl);
+            sink = omega (arith, end.counts.only none, counts.printing.only (by Unprinted refl));
+          };
+    }
 
 pub returns-clause-printed : goal.returns-clause-printed
 returns-clause-printed g c =
-    end_printed first_rules (rises (whole g c)) (Ran_sunk g c) (End_sunk g c) c.perform-ran.result.result c.finish-status.result
+    let ran = span g.S.Source g.D.Disk g.K.Sink (c.args.script.now, c.args.disk, c.args.out.now) (c.perform-ran.new.script, c.perform-ran.result.disk, c.perform-ran.new.out) in
+    end_printed first_rules (rises_alone (whole g c)) (Ran_sunk g c) (End_sunk g c) c.perform-ran.result.result c.finish-status.result
     (g.S.Source.left c.args.script.now) (g.D.Disk.files c.args.disk) (g.K.Sink.written c.args.out.now) (g.K.Sink.written c.perform-ran.new.out)
-    (g.K.Sink.written c.finish-status.new.out) (first g c) (later g c) c.perform-ran.ensures.cause c.perform-ran.ensures.printed c.finish-status.ensures.ended
+    (g.K.Sink.written c.finish-status.new.out) (first g c) (later g c)
+    (caused_alone first_rules ran (Ran_sunk g c) (g.S.Source.left c.args.script.now) (g.D.Disk.files c.args.disk) c.perform-ran.result.result
+    c.perform-ran.ensures.counts c.perform-ran.ensures.cause) c.perform-ran.ensures.printed c.finish-status.ensures.ended
 
 pub returns-clause-untouched : goal.returns-clause-untouched
 returns-clause-untouched g c (inl is) =
@@ -137,6 +155,6 @@ returns-clause-kept g c =
         source = kept.counts.source;
         reading = kept.counts.reading;
         writing = kept.counts.writing;
-        sink = omega (arith, kept.counts.sink, c.finish-status.ensures.later);
+        sink = omega (arith, kept.counts.sink, c.finish-status.ensures.counts.later);
       };
     }

@@ -7,7 +7,7 @@ use Rattle.alter_session.specs.Session.{Holds, disk_of}
 use Rattle.alter_cli.specs.First.{first_rules}
 use Rattle.alter_cli.specs.Given.{WroteFront}
 use Rattle.alter_cli.specs.Left.{left_on}
-use Rattle.alter_cli.specs.Stops.{MayHave, NotRun}
+use Rattle.alter_cli.specs.Stops.{NotRun, OpensAround}
 use Rattle.alter_cli.proofs.FirstRun.{closed_each, failed_run, reads_refused}
 use Rattle.alter_cli.proofs.run.run_command.Goals as goal
 
@@ -26,7 +26,7 @@ returns-in-Done-clause-stop g c = (
 
 pub returns-in-Done-clause-stops : goal.returns-in-Done-clause-stops
 returns-in-Done-clause-stops g c = λ image holds.
-    subst (λ d. Leaves g.D.Disk (disk_of c.args.session) d (MayHave first_rules image c.args.command.now)) (sym c.close.ensures)
+    subst (λ d. Leaves g.D.Disk (disk_of c.args.session) d (OpensAround first_rules image c.args.command.now)) (sym c.close.ensures)
     (c.in-Done.ensures.stops image holds)
 
 pub returns-in-Ok-clause-makes : goal.returns-in-Ok-clause-makes
@@ -41,7 +41,7 @@ returns-in-Memory-clause-stop g c = (
 
 pub returns-in-Memory-clause-stops : goal.returns-in-Memory-clause-stops
 returns-in-Memory-clause-stops g c = λ image holds.
-    subst (λ d. Leaves g.D.Disk (disk_of c.args.session) d (MayHave first_rules image c.args.command.now)) (sym c.close-in-Memory.ensures)
+    subst (λ d. Leaves g.D.Disk (disk_of c.args.session) d (OpensAround first_rules image c.args.command.now)) (sym c.close-in-Memory.ensures)
     (c.in-Memory.ensures.stops image holds)
 
 pub returns-clause-stop : goal.returns-clause-stop

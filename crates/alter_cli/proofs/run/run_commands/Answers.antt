@@ -6,7 +6,7 @@ use Rattle.plain_schema.specs.Verdicts.{is_done}
 use Rattle.alter_session.specs.Session.{Holds, disk_of}
 use Rattle.alter_cli.specs.First.{first_rules}
 use Rattle.alter_cli.specs.Left.{left_on}
-use Rattle.alter_cli.specs.Stops.{IsReachedBy, MayHave}
+use Rattle.alter_cli.specs.Stops.{IsReachedBy, OpensAround}
 use Rattle.alter_disk.proofs.Moments.{goes_far, reads_none, reads_on, started, stays_none, stays_on, weaker}
 use Rattle.alter_cli.proofs.Printed.{gave_more, gave_none}
 use Rattle.alter_cli.proofs.FirstRun.{closed_each, reached_stop, reads_refused}
@@ -23,7 +23,9 @@ loop-command-init g c = record {
   number = refl;
   printed = gave_none (g.K.Sink.written c.args.out.now);
   stays = stays_none g.D.Disk (disk_of c.args.session);
-  sink = omega arith;
+  reading = refl;
+  writing = refl;
+  sink = refl;
 }
 
 pub returns-in-Err-clause-stop : goal.returns-in-Err-clause-stop
@@ -47,7 +49,7 @@ returns-in-Err-clause-stops g c = λ image holds.
     let next = is_next c.args.commands.now c.loop-command.command-index c.loop-command.number c.command-item.result inv.number c.loop-command-test.true c.command-item.is in
     let reached = inv.reached image holds in
     goes_far g.D.Disk (disk_of c.args.session) (disk_of c.loop-command.session) d (IsReachedBy first_rules image c.args.commands.now) (inv.stops image holds)
-    (weaker g.D.Disk (disk_of c.loop-command.session) d (MayHave first_rules reached.last c.command-item.result) (IsReachedBy first_rules image c.args.commands.now)
+    (weaker g.D.Disk (disk_of c.loop-command.session) d (OpensAround first_rules reached.last c.command-item.result) (IsReachedBy first_rules image c.args.commands.now)
     (may_reach first_rules (ReadsQuietly g.D.Disk (disk_of c.args.session) (disk_of c.loop-command.session)) (λ i. Holds g.D.Disk i c.loop-command.session) image c.args.commands.now (g.K.Sink.written c.args.out.now) c.loop-command.command-index
     (c.loop-command.number + 1) c.command-item.result (g.K.Sink.written c.loop-command.out) (g.K.Sink.written c.run_command.new.out) c.loop-command.all_done next reached)
     (c.in-Err.ensures.stops reached.last reached.of))
@@ -78,7 +80,7 @@ loop-command-preserved g c =
           let reached = inv.reached image holds in
           goes_far g.D.Disk (disk_of c.args.session) (disk_of c.loop-command.session) (disk_of session) (IsReachedBy first_rules image c.args.commands.now)
           (inv.stops image holds)
-          (weaker g.D.Disk (disk_of c.loop-command.session) (disk_of session) (MayHave first_rules reached.last c.command-item.result)
+          (weaker g.D.Disk (disk_of c.loop-command.session) (disk_of session) (OpensAround first_rules reached.last c.command-item.result)
           (IsReachedBy first_rules image c.args.commands.now)
           (may_reach first_rules (ReadsQuietly g.D.Disk (disk_of c.args.session) (disk_of c.loop-command.session)) (λ i. Holds g.D.Disk i c.loop-command.session) image c.args.commands.now given c.loop-command.command-index
           (c.loop-command.number + 1) c.command-item.result had now c.loop-command.all_done next reached) (c.in-Ok.ensures.stops reached.last reached.of));
@@ -87,7 +89,9 @@ loop-command-preserved g c =
       printed = gave_more given had now c.loop-command.command-index (c.loop-command.number + 1) verdict c.loop-command.all_done c.if-all_done.all_done
           (ap (λ n. n + 1) inv.number) all c.in-Ok.ensures.line inv.printed;
       stays = stays_on g.D.Disk (disk_of c.args.session) (disk_of c.loop-command.session) (disk_of session) inv.stays c.in-Ok.ensures.stays;
-      sink = omega (arith, inv.sink, c.run_command.ensures.sink);
+      reading = c.in-Ok.ensures.cause.reading.only (λ is. cc) ∙ inv.reading;
+      writing = c.in-Ok.ensures.cause.writing.only (λ is. cc) ∙ inv.writing;
+      sink = c.in-Ok.ensures.cause.printing.only (λ is. cc) ∙ inv.sink;
     }
 
 pub returns-clause-ran : goal.returns-clause-ran

@@ -8,7 +8,7 @@ invariant-loop-chunk g l = record {
   told : IfTold (g.S.Source.left l.fn.script) (λ bytes. (rest : List ℕ) × (g.S.Source.left l.script ≡ Some rest) × (bytes ≡ l.text.items ++ rest));
   stays : is_some (g.S.Source.left l.script) ≡ is_some (g.S.Source.left l.fn.script);
   limit : vec_len l.text ≤ 1048577;
-  later : g.S.Source.faults l.fn.script ≤ g.S.Source.faults l.script;
+  same : g.S.Source.faults l.script ≡ g.S.Source.faults l.fn.script;
 }
 
 abbrev pub decreases-loop-chunk : goal.decreases-loop-chunk

@@ -1,5 +1,7 @@
-use Rattle.std.proofs.Common.{◌∙◌}
+use Rattle.std.proofs.Common.{◌∙◌, Ok, Err}
 use Rattle.alter_disk.proofs.Moments.{reads_on}
+use Rattle.alter_session.specs.declared.open_error.OpenError.TheVariants.{Refused}
+use Rattle.alter_session.proofs.Causes.{unfailed}
 use Rattle.alter_session.proofs.Fronts.{openable, front_refused, front_shape, front_whole}
 use Rattle.alter_session.proofs.opening.read_shape.Goals as goal
 
@@ -23,3 +25,13 @@ returns-in-Err-clause-reads g c = reads_on g.D.Disk _ _ _ c.db_len.ensures.reads
 
 pub returns-in-Ok-shape-clause-sound : goal.returns-in-Ok-shape-clause-sound
 returns-in-Ok-shape-clause-sound g c = openable _ _ _ c.in-Ok-shape.ensures.accepted c.in-Ok-shape.ensures.shape c.in-Ok-shape.ensures.sound
+
+pub returns-in-Ok-shape-clause-cause : goal.returns-in-Ok-shape-clause-cause
+returns-in-Ok-shape-clause-cause g c =
+    unfailed g.D.Disk c.args.disk.now c.read_front.new.disk (Ok c.in-Ok-shape.shape) (λ way is. cc)
+    (c.in-Ok-read_front.ensures.cause.only ∙ c.in-Ok.ensures.cause.only) (c.read_front.ensures.reads.only.writes_stay ∙ c.db_len.ensures.reads.only.writes_stay)
+
+pub returns-in-Err-clause-cause : goal.returns-in-Err-clause-cause
+returns-in-Err-clause-cause g c =
+    unfailed g.D.Disk c.args.disk.now c.read_front.new.disk (Err (Refused c.in-Err.refusal)) (λ way is. cc)
+    (c.in-Ok-read_front.ensures.cause.only ∙ c.in-Ok.ensures.cause.only) (c.read_front.ensures.reads.only.writes_stay ∙ c.db_len.ensures.reads.only.writes_stay)
