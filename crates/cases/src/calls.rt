@@ -11,6 +11,7 @@ use query_parse::{ParseError, parse_expr, parse_select};
 use sql_token::{Token, TokenError, TokenKind, name_of, tokens};
 use sql_tree::first_too_deep;
 use std::alloc::{AllocError, Global};
+use trigger_parse::parse_trigger;
 
 /// The answer to a line. A line of another form is no case.
 pub fn answer_to(alloc: Global, line: &[u8]) -> Result<Answer, AllocError> {
@@ -43,6 +44,7 @@ pub fn answer_to(alloc: Global, line: &[u8]) -> Result<Answer, AllocError> {
         (b"table", None) => table(alloc, text.as_slice(), list.as_slice()),
         (b"index", None) => index(alloc, text.as_slice(), list.as_slice()),
         (b"view", None) => view(alloc, text.as_slice(), list.as_slice()),
+        (b"trigger", None) => trigger(alloc, text.as_slice(), list.as_slice()),
         (b"name", Some(place)) => name_at(alloc, text.as_slice(), list.as_slice(), place),
         _ => Ok(Answer::NoSuchCase),
     }
@@ -91,6 +93,14 @@ fn index(alloc: Global, text: &[u8], list: &[Token]) -> Result<Answer, AllocErro
 /// What `parse_view` gives.
 fn view(alloc: Global, text: &[u8], list: &[Token]) -> Result<Answer, AllocError> {
     match parse_view(alloc, text, list) {
+        Ok(tree) => Ok(spelled(tree.flatten(alloc)?.as_slice(), list)),
+        Err(error) => unparsed(error),
+    }
+}
+
+/// What `parse_trigger` gives.
+fn trigger(alloc: Global, text: &[u8], list: &[Token]) -> Result<Answer, AllocError> {
+    match parse_trigger(alloc, text, list) {
         Ok(tree) => Ok(spelled(tree.flatten(alloc)?.as_slice(), list)),
         Err(error) => unparsed(error),
     }
