@@ -13,11 +13,12 @@ use Rattle.sql_expr.specs.declared.lists.InParens.{InParens}
 use Rattle.sql_expr.specs.declared.lists.NextItem.{NextItem}
 use Rattle.sql_expr.specs.declared.select.Select.{Select}
 use Rattle.sql_reader.proofs.Choices.{choice_reads, many_reads, opt_reads}
-use Rattle.sql_reader.proofs.Forms.{begun_reads, formed_reads, ruled, variant_reads}
+use Rattle.sql_reader.proofs.Forms.{begun_reads, formed_reads, ruled, variant_reads, widened_reads}
 use Rattle.sql_reader.proofs.Laws.{Reads, leaf_reads, seq_reads}
 use Rattle.sql_reader.proofs.Leaves.{name_fits, sign_fits, word_fits, words_fit}
+use Rattle.sql_reader.specs.Looks.{sign}
 use Rattle.sql_reader.specs.Sorts.{sort_of}
-use Rattle.sql_reader.specs.declared.sort.Mark.TheVariants.{Equal}
+use Rattle.sql_reader.specs.declared.sort.Mark.TheVariants.{Equal, Opening}
 use Rattle.sql_tree.specs.Rules.{AreSets, IsAssignment, IsDelete, IsIndexed, IsInsertVerb, IsOrAction, IsUpdate, IsUpsert, IsUpsertAction, IsUpsertTarget}
 use Rattle.sql_tree.specs.Tokens.{assignment_tokens, delete_tokens, indexed_tokens, insert_verb_tokens, or_action_tokens, sets_tokens, target_tokens, update_tokens, upsert_action_tokens, upsert_target_tokens, upsert_tokens}
 use Rattle.sql_tree.specs.declared.conflict.OrAction.{OrAction}
@@ -191,7 +192,10 @@ module _ {text : List ℕ} {b m : ℕ} {inner twin : Inner} where
   pub opt_upsert_target_reads : Given text b m inner twin → Reads (sort_of text) (Option UpsertTarget) (λ x. IfSome x (IsUpsertTarget text m)) (λ x. IfSome x (IsUpsertTarget text m)) (maybe upsert_target_tokens) b
       (opt_upsert_target (sort_of text) inner) (read_opt_upsert_target (sort_of text) twin)
   unfolding read_opt_upsert_target
-  opt_upsert_target_reads given = opt_reads (upsert_target_reads given) refl
+  opt_upsert_target_reads given =
+      opt_reads
+      (widened_reads {starts = (sign Opening ∷ []) ∷ []} {goes_on = (upsert_target (sort_of text) inner).goes_on} (upsert_target_reads given) refl refl)
+      refl
 
   -- NOTHING | UPDATE SET sets [WHERE expr]
   pub upsert_action_reads : Given text b m inner twin → Reads (sort_of text) UpsertAction (IsUpsertAction text m) (IsUpsertAction text m) upsert_action_tokens b

@@ -20,7 +20,7 @@ use Rattle.sql_tree.specs.declared.statement.UpsertTarget.{UpsertTarget}
 use Rattle.sql_tree.specs.declared.table.Indexed.{Indexed}
 use Rattle.sql_reader.specs.Looks.{Look, name, sign, word, words}
 use Rattle.sql_reader.specs.Reading.{Read, Reading, begun, choice, formed, leaf, many, opt, sealed, seq, widened}
-use Rattle.sql_reader.specs.declared.sort.Mark.TheVariants.{Equal}
+use Rattle.sql_reader.specs.declared.sort.Mark.TheVariants.{Equal, Opening}
 use Rattle.sql_reader.specs.declared.sort.Sort.{Sort}
 use Rattle.query_reading.specs.Exprs.{Inner, expr, select, select_goes_on, select_starts}
 use Rattle.query_reading.specs.Lists.{in_parens, next_item, opt_leaf}
@@ -180,9 +180,10 @@ read_upsert_target sort inner = (upsert_target_form sort inner).read
 abbrev pub upsert_target : (sort : Token → Sort) → Inner → Reading sort UpsertTarget
 upsert_target sort inner = sealed (upsert_target_form sort inner) (read_upsert_target sort inner)
 
--- ["(" indexeds ")" [WHERE expr]]
+-- ["(" indexeds ")" [WHERE expr]], where "(" alone tells that it begins
 abbrev opt_upsert_target_form : (sort : Token → Sort) → Inner → Reading sort (Option UpsertTarget)
-opt_upsert_target_form sort inner = opt (upsert_target sort inner)
+opt_upsert_target_form sort inner =
+    opt (widened ((sign Opening ∷ []) ∷ []) (upsert_target sort inner).goes_on (upsert_target sort inner))
 
 unfoldable pub read_opt_upsert_target : (Token → Sort) → Inner → Read (Option UpsertTarget)
 read_opt_upsert_target sort inner = (opt_upsert_target_form sort inner).read
