@@ -1,5 +1,5 @@
 -- An expression whose operand was made a key's is the expression as a key.
-use Rattle.std.proofs.Common.{Option, Some, ap, suc, sym, subst, ℕ, ◌∙◌, ◌≡◌}
+use Rattle.std.proofs.Common.{Some, ap, suc, sym, ℕ, ◌∙◌, ◌≡◌}
 use Rattle.sql_expr.specs.declared.expr.Expr.{Expr, out-Expr, roll-Expr}
 use Rattle.sql_expr.specs.declared.expr.Operand.{Operand, out-Operand, roll-Operand, roll-out-Operand}
 use Rattle.sql_expr.specs.declared.expr.Part.{out-Part, roll-Part}

@@ -1,4 +1,4 @@
-use Rattle.std.proofs.Common.{arith, ap, suc, sym, subst, ◌∙◌, ◌≡◌}
+use Rattle.std.proofs.Common.{arith, ap, suc, ◌∙◌, ◌≡◌}
 use Rattle.sql_expr.specs.declared.expr.Expr.{out-Expr, roll-Expr}
 use Rattle.sql_expr.specs.declared.expr.Operand.{out-Operand}
 use Rattle.sql_expr.specs.declared.expr.Part.{out-Part, roll-Part}
