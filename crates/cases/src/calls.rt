@@ -6,6 +6,7 @@ ghost use Rattle.sql_token.specs.Token.{AreTokens};
 
 use crate::answer::Answer;
 use crate::field::{number, unescaped};
+use ddl_parse::{parse_column, parse_index, parse_table, parse_view};
 use query_parse::{ParseError, parse_expr, parse_select};
 use sql_token::{Token, TokenError, TokenKind, name_of, tokens};
 use sql_tree::first_too_deep;
@@ -38,6 +39,10 @@ pub fn answer_to(alloc: Global, line: &[u8]) -> Result<Answer, AllocError> {
         )?)),
         (b"expr", None) => expr(alloc, text.as_slice(), list.as_slice()),
         (b"select", None) => select(alloc, text.as_slice(), list.as_slice()),
+        (b"column", None) => column(alloc, text.as_slice(), list.as_slice()),
+        (b"table", None) => table(alloc, text.as_slice(), list.as_slice()),
+        (b"index", None) => index(alloc, text.as_slice(), list.as_slice()),
+        (b"view", None) => view(alloc, text.as_slice(), list.as_slice()),
         (b"name", Some(place)) => name_at(alloc, text.as_slice(), list.as_slice(), place),
         _ => Ok(Answer::NoSuchCase),
     }
@@ -54,6 +59,38 @@ fn expr(alloc: Global, text: &[u8], list: &[Token]) -> Result<Answer, AllocError
 /// What `parse_select` gives.
 fn select(alloc: Global, text: &[u8], list: &[Token]) -> Result<Answer, AllocError> {
     match parse_select(alloc, text, list) {
+        Ok(tree) => Ok(spelled(tree.flatten(alloc)?.as_slice(), list)),
+        Err(error) => unparsed(error),
+    }
+}
+
+/// What `parse_column` gives.
+fn column(alloc: Global, text: &[u8], list: &[Token]) -> Result<Answer, AllocError> {
+    match parse_column(alloc, text, list) {
+        Ok(tree) => Ok(spelled(tree.flatten(alloc)?.as_slice(), list)),
+        Err(error) => unparsed(error),
+    }
+}
+
+/// What `parse_table` gives.
+fn table(alloc: Global, text: &[u8], list: &[Token]) -> Result<Answer, AllocError> {
+    match parse_table(alloc, text, list) {
+        Ok(tree) => Ok(spelled(tree.flatten(alloc)?.as_slice(), list)),
+        Err(error) => unparsed(error),
+    }
+}
+
+/// What `parse_index` gives.
+fn index(alloc: Global, text: &[u8], list: &[Token]) -> Result<Answer, AllocError> {
+    match parse_index(alloc, text, list) {
+        Ok(tree) => Ok(spelled(tree.flatten(alloc)?.as_slice(), list)),
+        Err(error) => unparsed(error),
+    }
+}
+
+/// What `parse_view` gives.
+fn view(alloc: Global, text: &[u8], list: &[Token]) -> Result<Answer, AllocError> {
+    match parse_view(alloc, text, list) {
         Ok(tree) => Ok(spelled(tree.flatten(alloc)?.as_slice(), list)),
         Err(error) => unparsed(error),
     }

@@ -34,7 +34,7 @@ one_child TableInner page at a b h k = h.number ∙ sym k.number
 one_child IndexLeaf page at a b h k = h ∙ sym k
 one_child TableLeaf page at a b h k = h ∙ sym k
 
-one_length : (kind : Kind) (page : List ℕ) (at n m v w : ℕ) → HasLength kind page at n v → HasLength kind page at m w → (v ≡ w) × (n ≡ m)
+pub one_length : (kind : Kind) (page : List ℕ) (at n m v w : ℕ) → HasLength kind page at n v → HasLength kind page at m w → (v ≡ w) × (n ≡ m)
 one_length IndexInner page at n m v w h k = one_varint page at n m v w h k
 one_length TableInner page at n m v w h k = (h.1 ∙ sym k.1, h.0 ∙ sym k.0)
 one_length IndexLeaf page at n m v w h k = one_varint page at n m v w h k
@@ -45,7 +45,7 @@ one_number page at n m r s h k =
     let (bits, size) = one_varint page at n m h.bits k.bits h.form k.form in
     (h.value ∙ ap (λ b. Some (cast_signed w64 b)) bits ∙ sym k.value, size)
 
-one_rowid : (kind : Kind) (page : List ℕ) (at n m : ℕ) (r s : Option ℤ) → HasRowid kind page at n r → HasRowid kind page at m s → (r ≡ s) × (n ≡ m)
+pub one_rowid : (kind : Kind) (page : List ℕ) (at n m : ℕ) (r s : Option ℤ) → HasRowid kind page at n r → HasRowid kind page at m s → (r ≡ s) × (n ≡ m)
 one_rowid IndexInner page at n m r s h k = (h.1 ∙ sym k.1, h.0 ∙ sym k.0)
 one_rowid TableInner page at n m r s h k = one_number page at n m r s h k
 one_rowid IndexLeaf page at n m r s h k = (h.1 ∙ sym k.1, h.0 ∙ sym k.0)

@@ -1,5 +1,5 @@
 -- The cells at the first pointers: there is one list of them, which the marks follow.
-use Rattle.std.proofs.Common.{◌≡◌, ℕ, zero, suc, ◌+◌, ◌-◌, ◌*◌, ◌<◌, ◌≤◌, ◌⊎◌, inl, inr, slice_index, Bool, true, false, List, [], ◌∷◌, ◌++◌, length, take, drop, replicate, get_or, Option, Some, None, Result, Err, refl, sym, ap, subst, ◌∙◌, arith, length-append, length-drop, max}
+use Rattle.std.proofs.Common.{◌≡◌, ℕ, zero, suc, ◌+◌, ◌-◌, ◌*◌, ◌<◌, ◌≤◌, ◌⊎◌, inl, inr, slice_index, Bool, true, false, List, [], ◌∷◌, ◌++◌, length, take, drop, replicate, get_or, Option, Some, None, Result, Err, refl, sym, ap, subst, ◌∙◌, arith, length-append, length-drop, max, nat_eq, if◌then◌else◌}
 use Rattle.std.proofs.lemmas.Bool.{cases_lt}
 use Rattle.std.proofs.lemmas.List.{get_or_default, get_or-append_right, get_or-drop, get_or-replicate, get_or-take, get_or_append_left, length-replicate, length-take-le, take-append-le, take_all, take_at}
 use Rattle.std.proofs.lemmas.Option.{slice_get_within}
@@ -11,6 +11,7 @@ use Rattle.page_cells.specs.Cells.{AreCells, FirstFault, HasCells, HasChild, IsN
 use Rattle.page_cells.specs.Errors.{IsFaultAt, IsMemory, OnBounds}
 use Rattle.page_cells.specs.Taken.{IsFault, IsFreeCell, marked}
 use Rattle.page_cells.specs.declared.kind.Kind as kinds
+use Rattle.page_cells.specs.declared.kind.Kind.TheVariants.{IndexInner, TableInner, IndexLeaf, TableLeaf}
 use Rattle.page_cells.specs.declared.error.CellError.{CellError}
 use Rattle.page_cells.specs.declared.error.CellError.TheVariants.{Bounds, Kind, Memory}
 use Rattle.page_cells.specs.declared.cell.Cell.{Cell}
@@ -90,6 +91,31 @@ one_fault page first kind usable at place f g = elim f.fault [
     ]
   ]
 ]
+
+-- the kind of a page by its byte
+kind_of : ℕ → kinds.Kind
+kind_of byte = if nat_eq byte 2 then IndexInner else (if nat_eq byte 5 then TableInner else (if nat_eq byte 10 then IndexLeaf else TableLeaf))
+
+kind_of-byte : (kind : kinds.Kind) → kind_of (kind_byte kind) ≡ kind
+unfolding kind_of
+kind_of-byte IndexInner = refl
+kind_of-byte TableInner = refl
+kind_of-byte IndexLeaf = refl
+kind_of-byte TableLeaf = refl
+
+one_kind : (byte : ℕ) (kind other : kinds.Kind) → byte ≡ kind_byte kind → byte ≡ kind_byte other → other ≡ kind
+one_kind byte kind other is also = sym (kind_of-byte other) ∙ ap kind_of (sym also ∙ is) ∙ kind_of-byte kind
+
+-- what is said of a page as one of another kind is said of its own
+pub has_of_kind : (page : List ℕ) (first : Bool) (kind : kinds.Kind) (usable : ℕ) → slice_index page (header_start first) ≡ kind_byte kind
+    → (other : kinds.Kind) (c : PageCells) → HasCells page first other usable c → HasCells page first kind usable c
+has_of_kind page first kind usable byte other c has =
+    subst (λ k. HasCells page first k usable c) (one_kind (slice_index page (header_start first)) kind other byte has.byte) has
+
+pub fault_of_kind : (page : List ℕ) (first : Bool) (kind : kinds.Kind) (usable : ℕ) → slice_index page (header_start first) ≡ kind_byte kind
+    → (other : kinds.Kind) (at : ℕ) → FirstFault page first other usable at → FirstFault page first kind usable at
+fault_of_kind page first kind usable byte other at fault =
+    subst (λ k. FirstFault page first k usable at) (one_kind (slice_index page (header_start first)) kind other byte fault.byte) fault
 
 -- a mark is set where one of the cells takes its place
 pub record Marks (page : List ℕ) (first : Bool) (kind : kinds.Kind) (usable : ℕ) (cells : List Cell) (taken : List Bool) : Type 0 where

@@ -27,6 +27,12 @@ least-le-most TableInner usable least = omega arith
 least-le-most IndexLeaf usable least = omega arith
 least-le-most TableLeaf usable least = omega arith
 
+pub most_local-le : (kind : Kind) (usable : ℕ) → most_local kind usable ≤ usable
+most_local-le IndexInner usable = omega arith
+most_local-le TableInner usable = omega arith
+most_local-le IndexLeaf usable = omega arith
+most_local-le TableLeaf usable = omega arith
+
 -- the local part leaves room in the page, and is a part of the payload
 pub local_payload-le : (kind : Kind) (usable p : ℕ) → least_usable ≤ usable → local_payload kind usable p ≤ most_local kind usable
 local_payload-le kind usable p least = elim (cases_lt (most_local kind usable) p) [

@@ -1,7 +1,7 @@
 pub mod CellLemmas
 pub mod CellsLemmas
+pub mod FieldLemmas
 pub mod FoundLemmas
 pub mod LayoutLemmas
-pub mod LeafLemmas
 pub mod TakenLemmas
 pub mod WriteLemmas

@@ -110,6 +110,18 @@ length-child_bytes TableInner child = length-number_bytes child
 length-child_bytes IndexLeaf child = refl
 length-child_bytes TableLeaf child = refl
 
+pub child_bytes-some : (kind : Kind) (right : Option ℕ) (child : ℕ) → IsChild kind right → right ≡ Some child → child_bytes kind right ≡ big_bytes 4 child
+child_bytes-some IndexInner right child h is = ap number_bytes is
+child_bytes-some TableInner right child h is = ap number_bytes is
+child_bytes-some IndexLeaf right child h is = absurd (apart child (sym h ∙ is))
+  where
+    apart : (n : ℕ) → ◌≡◌ {A = Option ℕ} None (Some n) → ⊥
+    apart n e = cc
+child_bytes-some TableLeaf right child h is = absurd (apart child (sym h ∙ is))
+  where
+    apart : (n : ℕ) → ◌≡◌ {A = Option ℕ} None (Some n) → ⊥
+    apart n e = cc
+
 pub length-header_bytes : (kind : Kind) (right : Option ℕ) (count content : ℕ) → length (header_bytes kind right count content) ≡ page_header_len kind
 length-header_bytes kind right count content = omega (arith, length-child_bytes kind right)
 

@@ -90,11 +90,14 @@ abbrev pub cell_bytes : List (List ℕ) → List ℕ
 cell_bytes [] = []
 cell_bytes (cell ∷ cells) = (cell ++ replicate (room cell - length cell) 0) ++ cell_bytes cells
 
--- the page's own header: its kind, no free block, the number of cells, the start of the cells, no fragments, and on an
--- interior page the right-most child
+-- the page's own header without a child: its kind, no free block, the number of cells, the start of the cells, and no
+-- fragments
+abbrev pub header_fields : Kind → ℕ → ℕ → List ℕ
+header_fields kind count content = kind_byte kind ∷ 0 ∷ 0 ∷ big_bytes 2 count ++ big_bytes 2 (content % most_usable) ++ 0 ∷ []
+
+-- the page's own header, and on an interior page the right-most child
 abbrev pub header_bytes : Kind → Option ℕ → ℕ → ℕ → List ℕ
-header_bytes kind right count content =
-    kind_byte kind ∷ 0 ∷ 0 ∷ big_bytes 2 count ++ big_bytes 2 (content % most_usable) ++ 0 ∷ child_bytes kind right
+header_bytes kind right count content = header_fields kind count content ++ child_bytes kind right
 
 -- the page with these cells in place of what it held; bytes in front of its own header and behind the usable ones stay
 unfoldable pub written_page : List ℕ → Bool → Kind → Option ℕ → ℕ → List (List ℕ) → List ℕ

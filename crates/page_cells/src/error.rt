@@ -4,7 +4,7 @@ use std::alloc::{AllocError, AllocFailed};
 #[derive(Debug, Drop)]
 pub enum CellError {
     Memory(AllocError),
-    /// The page is of a kind that is not read.
+    /// The first byte of the page's own header is that of no kind.
     Kind,
     /// A field of the page, at this place in it, that no page of the format has: the number of cells
     /// where their pointers do not fit, or the first pointer at which no cell can stand.

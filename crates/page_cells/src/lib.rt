@@ -3,9 +3,9 @@
 
 mod cell;
 mod error;
+mod fields;
 mod kind;
 mod layout;
-mod leaf;
 mod reader;
 mod taken;
 #[cfg(test)]

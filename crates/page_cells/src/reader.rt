@@ -7,37 +7,37 @@ ghost use Rattle.page_cells.specs.Taken.{IsFault, IsFreeCell, marked};
 ghost use Rattle.page_cells.specs.declared.cell.Cell.{Cell};
 ghost use Rattle.page_cells.specs.declared.cell.PageCells.{PageCells};
 
-use crate::layout::{COUNT_AT, POINTER_LEN, header_at, number_at};
-use crate::leaf::cell_at;
+use crate::fields::{cell_at, child_at};
+use crate::layout::{CHILD_AT, COUNT_AT, POINTER_LEN, header_at, number_at};
 use crate::taken::take_places;
 use crate::{Cell, CellError, CellList, Kind, PageCells};
 use std::alloc::Global;
 
-/// The cells of a leaf page of a table tree, in the order of their pointers. `first` says that it is
-/// page 1, and `usable` is the size of a page less its reserved bytes. Free blocks, the number of
-/// fragmented bytes and the start of the cells are not looked at.
+/// The cells of a page of a tree, in the order of their pointers. `first` says that it is page 1, and
+/// `usable` is the size of a page less its reserved bytes. Free blocks, the number of fragmented bytes
+/// and the start of the cells are not looked at.
 pub fn cells(alloc: Global, page: &[u8], first: bool, usable: usize) -> Result<PageCells, CellError>
     requires { IsUsable usable (length page.now) }
-    ensures found { IfOk result (HasCells page.now first Kind.TableLeaf usable) }
-    ensures only { (c : PageCells) → HasCells page.now first Kind.TableLeaf usable c → Yields IsMemory (λ found. found ≡ c) result }
+    ensures found { IfOk result (λ found. HasCells page.now first found.kind usable found) }
+    ensures only { (kind : Kind) (c : PageCells) → HasCells page.now first kind usable c → Yields IsMemory (λ found. found ≡ c) result }
 
-    ensures kind { (result ≡ Err CellError.Kind) ↔ (slice_index page.now (header_start first) ≢ kind_byte Kind.TableLeaf) }
-    ensures bounds { OnBounds result (FirstFault page.now first Kind.TableLeaf usable) }
-    ensures first_fault { (at : ℕ) → FirstFault page.now first Kind.TableLeaf usable at → IsFaultAt at result }
+    ensures kind { (result ≡ Err CellError.Kind) ↔ ((kind : Kind) → slice_index page.now (header_start first) ≢ kind_byte kind) }
+    ensures bounds { OnBounds result (λ at. (kind : Kind) × FirstFault page.now first kind usable at) }
+    ensures first_fault { (kind : Kind) (at : ℕ) → FirstFault page.now first kind usable at → IsFaultAt at result }
 {
-    let kind = Kind::TableLeaf;
     let header = header_at(first);
-    if page[header] != kind.byte() {
+    let Some(kind) = Kind::of_byte(page[header]) else {
         return Err(CellError::Kind);
-    }
+    };
     let count = number_at(page, header + COUNT_AT);
     if usable < header + kind.header_len() + POINTER_LEN * count {
         return Err(CellError::Bounds(header + COUNT_AT));
     }
+    let right = child_at(page, kind, header + CHILD_AT);
     let cells = read_cells(alloc, page, first, kind, usable, count)?;
     Ok(PageCells {
         kind,
-        right: None,
+        right,
         cells: CellList::new(cells),
     })
 }
@@ -52,7 +52,6 @@ fn read_cells(
     count: usize,
 ) -> Result<Vec<Cell>, CellError>
     requires usable { IsUsable usable (length page.now) }
-    requires leaf { kind ≡ Kind.TableLeaf }
     requires byte { slice_index page.now (header_start first) ≡ kind_byte kind }
     requires count { count ≡ cell_count page.now first }
     requires room { pointers_end page.now first kind ≤ usable }
@@ -90,7 +89,6 @@ fn next_cell(
     at: usize,
     taken: &mut [bool],
 ) -> Option<Cell>
-    requires leaf { kind ≡ Kind.TableLeaf }
     requires usable { IsUsable usable (length page.now) }
     requires place { at < most_usable }
     requires marks { length taken.old ≡ usable }

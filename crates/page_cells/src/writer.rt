@@ -1,11 +1,11 @@
-ghost use Rattle.std.specs.Prelude.{◌≡◌, ◌≤◌, ◌<◌, ◌+◌, ◌-◌, ◌*◌, ◌++◌, ◌%◌, ◌↔◌, length, replicate, IsTrue, All, None};
+ghost use Rattle.std.specs.Prelude.{◌≡◌, ◌≤◌, ◌<◌, ◌+◌, ◌-◌, ◌*◌, ◌++◌, ◌%◌, ◌↔◌, length, replicate, IsTrue, All};
 ghost use Rattle.alter_bytes.specs.Field.{overlaid};
-ghost use Rattle.page_cells.specs.Layout.{IsUsable, least_usable, most_usable};
-ghost use Rattle.page_cells.specs.Write.{Fits, HoldsCells, IsWholeCell, cell_bytes, header_bytes, pointer_bytes, room, rooms, written_page};
+ghost use Rattle.page_cells.specs.Layout.{IsUsable, least_usable, most_usable, page_header_len};
+ghost use Rattle.page_cells.specs.Write.{Fits, HoldsCells, IsChild, IsWholeCell, cell_bytes, header_bytes, header_fields, pointer_bytes, room, rooms, written_page};
 
 use crate::Kind;
-use crate::layout::{POINTER_LEN, header_at};
-use alter_bytes::{Bytes, write_u16};
+use crate::layout::{CHILD_AT, COUNT_AT, POINTER_LEN, header_at};
+use alter_bytes::{Bytes, write_u16, write_u32};
 
 /// The fewest bytes that a cell takes of its page.
 const LEAST_ROOM: usize = 4;
@@ -13,15 +13,13 @@ const LEAST_ROOM: usize = 4;
 /// The first size of a page that two bytes do not hold; they hold 0 for it.
 const MOST_USABLE: usize = 65536;
 
-/// Whether a leaf page of a table tree has room for its header, these whole cells and their pointers.
-/// `first` says that it is page 1, and `usable` is the size of a page less its reserved bytes.
+/// Whether a page has room for its header, these whole cells and their pointers. `first` says that it is
+/// page 1, and `usable` is the size of a page less its reserved bytes.
 pub fn fits(first: bool, usable: usize, kind: Kind, cells: &[Bytes]) -> bool
-    requires leaf { kind ≡ Kind.TableLeaf }
     requires least { least_usable ≤ usable }
     requires most { usable ≤ most_usable }
     ensures { IsTrue result ↔ Fits first kind usable cells.now }
 {
-    prove!(kind == Kind::TableLeaf);
     let mut free = usable - header_at(first) - kind.header_len();
     for cell in cells {
         let room = room_of(cell);
@@ -33,8 +31,8 @@ pub fn fits(first: bool, usable: usize, kind: Kind, cells: &[Bytes]) -> bool
     true
 }
 
-/// Writes a leaf page of a table tree with these cells. The file's header on page 1 and the bytes
-/// behind the usable ones stay.
+/// Writes a page of the kind with these cells and, on interior pages, the right-most child. The file's
+/// header on page 1 and the bytes behind the usable ones stay.
 pub fn write_page(
     page: &mut [u8],
     first: bool,
@@ -43,20 +41,18 @@ pub fn write_page(
     right: Option<u32>,
     cells: &[Bytes],
 )
-    requires leaf { kind ≡ Kind.TableLeaf }
-    requires no_right { right ≡ None }
+    requires right { IsChild kind right }
     requires usable { IsUsable usable (length page.old) }
     requires whole { All (IsWholeCell kind usable) cells.now }
     requires fits { Fits first kind usable cells.now }
     ensures written { page.new ≡ written_page page.old first kind right usable cells.now }
     ensures cells { HoldsCells page.new first kind right usable cells.now }
 {
-    prove!(kind == Kind::TableLeaf && right.is_none());
     let header = header_at(first);
     let pointers = header + kind.header_len();
     let free = pointers + POINTER_LEN * cells.len();
     let content = usable - total_room(cells);
-    write_header(page, header, kind, cells.len(), content);
+    write_header(page, header, kind, right, cells.len(), content);
     write_pointers(page, pointers, content, cells);
     clear(page, free, content);
     write_cells(page, content, cells);
@@ -78,14 +74,33 @@ fn total_room(cells: &[Bytes]) -> usize
 }
 
 /// Writes the page's own header at `at`, for cells that begin at `content`.
-fn write_header(page: &mut [u8], at: usize, kind: Kind, count: usize, content: usize)
-    requires leaf { kind ≡ Kind.TableLeaf }
+fn write_header(
+    page: &mut [u8],
+    at: usize,
+    kind: Kind,
+    right: Option<u32>,
+    count: usize,
+    content: usize,
+)
+    requires right { IsChild kind right }
+    requires room { at + page_header_len kind ≤ length page.old }
+    requires few { count < most_usable }
+    ensures { page.new ≡ overlaid page.old at (header_bytes kind right count content) }
+{
+    write_fields(page, at, kind, count, content);
+    if let Some(child) = right {
+        write_u32(page, at + CHILD_AT, child);
+    }
+}
+
+/// Writes the fields of the page's own header in front of the right-most child.
+fn write_fields(page: &mut [u8], at: usize, kind: Kind, count: usize, content: usize)
     requires room { at + 8 ≤ length page.old }
     requires few { count < most_usable }
-    ensures { page.new ≡ overlaid page.old at (header_bytes kind None count content) }
+    ensures { page.new ≡ overlaid page.old at (header_fields kind count content) }
 {
     let mut bytes = [kind.byte(), 0, 0, 0, 0, 0, 0, 0];
-    write_u16(&mut bytes, 3, count as u16);
+    write_u16(&mut bytes, COUNT_AT, count as u16);
     write_u16(&mut bytes, 5, (content % MOST_USABLE) as u16);
     write_bytes(page, at, &bytes);
 }

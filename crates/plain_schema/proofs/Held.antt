@@ -18,9 +18,9 @@ use Rattle.page_cells.proofs.FoundLemmas.{found_page, has_cells-written_page, le
 use Rattle.page_cells.proofs.WriteLemmas.{content_start}
 use Rattle.common_laws.proofs.Each.{at_index}
 use Rattle.schema_rows.specs.declared.schema.SchemaRow.{SchemaRow}
-use Rattle.schema_rows.specs.Record.{IsRecord}
+use Rattle.record_codec.specs.Record.{IsRecord}
 use Rattle.schema_rows.specs.Schema.{row_cell, row_record, row_values}
-use Rattle.schema_rows.proofs.RowWritten.{IsSmall, length-row_record, row_record-is}
+use Rattle.schema_rows.proofs.RowWritten.{IsSmall, row_record-ge, row_record-is}
 use Rattle.plain_schema.specs.FirstPage.{HoldRows, HoldsRow, HoldsRows, IsRowid}
 use Rattle.plain_schema.specs.Step.{are_local, is_built}
 use Rattle.plain_schema.proofs.Written.{is_local, whole_row}
@@ -34,7 +34,7 @@ pub record IsWritable (usable : ℕ) (row : SchemaRow) : Type 0 where
 -- a row whose payload is local is small enough to be written
 is_small : (usable : ℕ) (row : SchemaRow) → usable ≤ 65536 → row.root ≤ 65536 → length (row_record row) ≤ usable - 35 → IsSmall row
 is_small usable row most root local =
-    let len = length-row_record row in
+    let len = row_record-ge row in
     record {
       root = omega arith;
       name = omega arith;

@@ -102,12 +102,15 @@ first_all page cells i rows list first all small held =
     sym (first list small held) ∙ take_all i list (omega arith)
 
 -- what has cells is a leaf page of them
-pub as_leaf : (page : List ℕ) (usable : ℕ) (found : PageCells) → HasCells page true TableLeaf usable found → HasCells page true TableLeaf usable (leaf_of found.cells)
-as_leaf page usable found has = record {
-  byte = has.byte;
-  of_kind = refl;
-  right = refl;
-  room = has.room;
-  count = has.count;
-  cells = has.cells;
-}
+pub as_leaf : (page : List ℕ) (usable : ℕ) (found : PageCells) → found.kind ≡ TableLeaf → HasCells page true found.kind usable found
+    → HasCells page true TableLeaf usable (leaf_of found.cells)
+as_leaf page usable found is has =
+    let of_kind = subst (λ k. HasCells page true k usable found) is has in
+    record {
+      byte = of_kind.byte;
+      of_kind = refl;
+      right = refl;
+      room = of_kind.room;
+      count = of_kind.count;
+      cells = of_kind.cells;
+    }

@@ -5,7 +5,7 @@ use Rattle.std.proofs.lemmas.Bool.Decides.{nat_tests}
 use Rattle.std.proofs.lemmas.List.{length-take-le}
 use Rattle.std.specs.List.{AllByRecursion, AllPairs, find}
 use Rattle.schema_rows.specs.Schema.{row_record}
-use Rattle.schema_rows.proofs.RowWritten.{length-row_record}
+use Rattle.schema_rows.proofs.RowWritten.{row_record-ge}
 use Rattle.plain_sql.specs.declared.script.Command.{Command}
 use Rattle.plain_schema.specs.declared.form.Form.{Form}
 use Rattle.plain_schema.specs.declared.table.Table.{Table}
@@ -38,7 +38,7 @@ left_ready : (named : Bool) (command : Command) (table : Table) → IsReadyTable
 left_ready false command table ready small = ready
 left_ready true command table ready small =
     let long = length-with_column table.row.text table.columns_end command.column ready.inside in
-    let whole = length-row_record (added command table).row in
+    let whole = row_record-ge (added command table).row in
     record {
       inside = omega (arith, long, ready.inside);
       root = ready.root;

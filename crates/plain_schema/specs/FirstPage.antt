@@ -5,7 +5,7 @@ use Rattle.page_cells.specs.declared.cell.PageCells.{PageCells}
 use Rattle.page_cells.specs.declared.kind.Kind.TheVariants.{TableLeaf}
 use Rattle.page_cells.specs.Cells.{HasCells}
 use Rattle.schema_rows.specs.declared.schema.SchemaRow.{SchemaRow}
-use Rattle.schema_rows.specs.Record.{IsRecord}
+use Rattle.record_codec.specs.Record.{IsRecord}
 use Rattle.schema_rows.specs.Schema.{row_values}
 
 -- a rowid that schema rows may have

@@ -6,13 +6,13 @@ ghost use Rattle.page_cells.specs.Cells.{HasCells};
 ghost use Rattle.page_cells.specs.Layout.{IsUsable};
 ghost use Rattle.page_cells.specs.declared.cell.Cell.{Cell};
 ghost use Rattle.page_cells.specs.declared.kind.Kind.TheVariants.{TableLeaf};
-ghost use Rattle.schema_rows.specs.Record.{IsRecord};
+ghost use Rattle.record_codec.specs.Record.{IsRecord};
 ghost use Rattle.schema_rows.specs.Schema.{row_values};
 ghost use Rattle.schema_rows.specs.declared.schema.SchemaRow.{SchemaRow};
 ghost use Rattle.plain_schema.specs.FirstPage.{HoldsRow, HoldRows, HoldsRows, IsEmptyTable, IsLocal, IsOnPage, leaf_of};
 ghost use Rattle.plain_schema.specs.Served.{IsShortRow};
 
-use page_cells::{Cell, CellError, cells};
+use page_cells::{Cell, CellError, Kind, cells};
 use schema_rows::{SchemaRow, read_schema_row};
 use std::alloc::{AllocError, Global};
 
@@ -35,7 +35,10 @@ fn first_cells(alloc: Global, page: &[u8], usable: usize) -> Result<Option<Vec<C
     ensures only { (list : List Cell) → HasCells page.now true TableLeaf usable (leaf_of list) → Yields AnyError (λ read. IsSomeAnd read (λ found. found.items ≡ list)) result }
 {
     match cells(alloc, page, true, usable) {
-        Ok(found) => Ok(Some(found.cells.into_vec())),
+        Ok(found) => match found.kind {
+            Kind::TableLeaf => Ok(Some(found.cells.into_vec())),
+            Kind::IndexInner | Kind::TableInner | Kind::IndexLeaf => Ok(None),
+        },
         Err(CellError::Memory(fault)) => Err(fault),
         Err(CellError::Kind) => Ok(None),
         Err(CellError::Bounds(_)) => Ok(None),
@@ -112,8 +115,9 @@ pub fn is_empty_table(alloc: Global, page: &[u8], usable: usize) -> Result<bool,
     ensures { IfOk result (λ empty. IsTrue empty ↔ IsEmptyTable usable page.now) }
 {
     match cells(alloc, page, false, usable) {
-        Ok(found) => Ok(found.cells.is_empty()),
+        Ok(found) => Ok(found.kind == Kind::TableLeaf && found.cells.is_empty()),
         Err(CellError::Memory(fault)) => Err(fault),
-        Err(CellError::Kind | CellError::Bounds(_)) => Ok(false),
+        Err(CellError::Kind) => Ok(false),
+        Err(CellError::Bounds(_)) => Ok(false),
     }
 }

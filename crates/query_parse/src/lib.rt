@@ -8,5 +8,5 @@ mod tests;
 mod whole;
 
 pub use error::ParseError;
-pub use nested::{nested_expr, nested_select};
+pub use nested::{nested_expr, nested_select, nested_sources};
 pub use whole::{check_nesting, parse_expr, parse_select};

@@ -50,7 +50,7 @@ pub fn nested_select(
 
 /// Sources that nest less deep than `left`.
 #[cycle(nested)]
-fn nested_sources(
+pub fn nested_sources(
     alloc: Global,
     cursor: &mut Cursor<'_>,
     left: usize,

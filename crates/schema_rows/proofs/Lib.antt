@@ -1,4 +1,2 @@
 pub mod RowFound
-pub mod RowLaws
-pub mod RowRecords
 pub mod RowWritten

@@ -1,4 +1,1 @@
-pub mod Record
-pub mod RowReading
-pub mod RowView
 pub mod Schema

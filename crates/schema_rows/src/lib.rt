@@ -1,7 +1,6 @@
 //! The rows of the schema table that stand for tables, and their records.
 #![tactic(auto)]
 
-mod record;
 mod schema;
 #[cfg(test)]
 mod tests;

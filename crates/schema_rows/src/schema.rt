@@ -1,14 +1,15 @@
 //! The rows of the schema table that stand for tables.
-ghost use Rattle.std.specs.Prelude.{◌≡◌, ◌<◌, ◌≤◌, ◌+◌, ◌*◌, ◌^◌, ◌++◌, drop, length, IfOk, OnOk, IfSome};
+ghost use Rattle.std.specs.Prelude.{◌≡◌, ◌<◌, ◌≤◌, ◌+◌, ◌^◌, ◌++◌, ◌∷◌, [], ℕ, List, pos, length, IfOk, OnOk, IfSome, IfNone};
 ghost use Rattle.std.specs.Option.{IsSomeAnd};
 ghost use Rattle.common_laws.specs.Results.{AnyError, Yields};
-ghost use Rattle.byteorder.specs.Endian.{big_bytes};
 ghost use Rattle.alter_bytes.specs.Varint.{varint};
-ghost use Rattle.schema_rows.specs.Record.{IsRecord};
+ghost use Rattle.record_codec.specs.Record.{IsRecord};
+ghost use Rattle.record_codec.specs.declared.value.Value.{Value};
+ghost use Rattle.record_codec.specs.declared.value.Value.TheVariants.{Int, Text};
 ghost use Rattle.schema_rows.specs.Schema as spec;
 
-use crate::record::read_row;
 use alter_bytes::{Bytes, write_varint};
+use record_codec::{RecordError, Value, decode, encode};
 use std::alloc::{AllocError, Global};
 
 /// A table's row of the schema table (fileformat2.html, "Storage Of The SQL Database Schema").
@@ -35,20 +36,56 @@ pub fn read_schema_row(
     ensures lengths { IfOk result (λ read. IfSome read (λ row. length row.name + length row.table + length row.text ≤ length payload.now)) }
     ensures only { (row : SchemaRow) → row.rowid ≡ rowid → row.root < 2 ^ 31 → IsRecord payload.now (spec.row_values row) → Yields AnyError (λ read. IsSomeAnd read (λ found. found ≡ row)) result }
 {
-    match read_row(payload) {
-        Some(parts) => {
-            let name = Bytes::from_slice(alloc, parts.name)?;
-            let table = Bytes::from_slice(alloc, parts.table)?;
-            let text = Bytes::from_slice(alloc, parts.text)?;
-            Ok(Some(SchemaRow {
-                rowid,
-                name,
-                table,
-                root: parts.root,
-                text,
-            }))
-        }
-        None => Ok(None),
+    match decode(alloc, payload) {
+        Ok(values) => Ok(row_of(rowid, values)),
+        Err(RecordError::Memory(fault)) => Err(fault),
+        Err(RecordError::Bad(_)) => Ok(None),
+    }
+}
+
+/// The row that these values are.
+fn row_of(rowid: u32, values: Vec<Value>) -> Option<SchemaRow>
+    ensures found { IfSome result (λ row. (row.rowid ≡ rowid) × (row.root < 2 ^ 31) × (values.items ≡ spec.row_values row)) }
+    ensures only { (row : SchemaRow) → row.rowid ≡ rowid → row.root < 2 ^ 31 → values.items ≡ spec.row_values row → result ≡ Some row }
+{
+    let mut left = values;
+    let text = pop_text(&mut left)?;
+    let root = pop_root(&mut left)?;
+    let table = pop_text(&mut left)?;
+    let name = pop_text(&mut left)?;
+    let kind = pop_text(&mut left)?;
+    if left.is_empty() && kind.as_slice() == b"table".as_slice() {
+        Some(SchemaRow {
+            rowid,
+            name,
+            table,
+            root,
+            text,
+        })
+    } else {
+        None
+    }
+}
+
+/// Takes the last value, where it is a text.
+fn pop_text(values: &mut Vec<Value>) -> Option<Bytes>
+    ensures text { IfSome result (λ text. values.old.items ≡ values.new.items ++ Text text ∷ []) }
+    ensures none { IfNone result ((front : List Value) (text : List ℕ) → values.old.items ≡ front ++ Text text ∷ [] → ⊥) }
+{
+    match values.pop() {
+        Some(Value::Text(text)) => Some(text),
+        _ => None,
+    }
+}
+
+/// Takes the last value, where it is a page number: an integer from 0 on below 2^31.
+fn pop_root(values: &mut Vec<Value>) -> Option<u32>
+    ensures root { IfSome result (λ root. (root < 2 ^ 31) × (values.old.items ≡ values.new.items ++ Int (pos root) ∷ [])) }
+    ensures none { IfNone result ((front : List Value) (root : ℕ) → root < 2 ^ 31 → values.old.items ≡ front ++ Int (pos root) ∷ [] → ⊥) }
+{
+    match values.pop() {
+        Some(Value::Int(root)) if 0 <= root && root < 1 << 31 => Some(root as u32),
+        _ => None,
     }
 }
 
@@ -61,87 +98,28 @@ fn push_varint(number: u64, bytes: &mut Vec<u8>) -> Result<(), AllocError>
     bytes.extend_from_slice(&field[..length])
 }
 
-/// The serial type of a text.
-fn text_serial(text: &Bytes) -> u64
-    requires { length text.now < 2 ^ 40 }
-    ensures { result ≡ 13 + 2 * length text.now }
-{
-    13 + 2 * text.len() as u64
-}
-
-/// How many bytes a root takes.
-fn root_width(root: u32) -> usize
-    ensures { result ≡ spec.root_width root }
-{
-    if root < 128 {
-        1
-    } else if root < 32768 {
-        2
-    } else {
-        3
-    }
-}
-
-/// Adds a root in the fewest bytes.
-fn push_root(root: u32, bytes: &mut Vec<u8>) -> Result<(), AllocError>
-    ensures { OnOk result (bytes.new.items ≡ bytes.old.items ++ big_bytes (spec.root_width root) root) }
-{
-    let width = root_width(root);
-    bytes.extend_from_slice(&root.to_be_bytes()[4 - width..])
-}
+/// The serial types of this schema format are those of every one (fileformat2.html, "Schema format number").
+const FORMAT: u8 = 1;
 
 impl SchemaRow {
-    /// The serial types of the record.
-    fn types(&self, alloc: Global) -> Result<Vec<u8>, AllocError>
-        requires name { length self.now.name < 2 ^ 40 }
-        requires table { length self.now.table < 2 ^ 40 }
-        requires text { length self.now.text < 2 ^ 40 }
-        ensures { IfOk result (λ types. types.items ≡ spec.row_types self.now) }
-    {
-        let mut types = Vec::new(alloc);
-        push_varint(23, &mut types)?;
-        push_varint(text_serial(&self.name), &mut types)?;
-        push_varint(text_serial(&self.table), &mut types)?;
-        types.push(root_width(self.root) as u8)?;
-        push_varint(text_serial(&self.text), &mut types)?;
-        Ok(types)
-    }
-
-    /// Adds the bodies of the record.
-    fn push_bodies(&self, bytes: &mut Vec<u8>) -> Result<(), AllocError>
-        ensures { OnOk result (bytes.new.items ≡ bytes.old.items ++ spec.row_bodies self.now) }
-    {
-        bytes.extend_from_slice(b"table")?;
-        bytes.extend_from_slice(self.name.as_slice())?;
-        bytes.extend_from_slice(self.table.as_slice())?;
-        push_root(self.root, bytes)?;
-        bytes.extend_from_slice(self.text.as_slice())
-    }
-
     /// The row's record in its shortest form.
     #[tactic(auto, unfolding(crate::specs::Schema::row_record))]
     pub fn record(&self, alloc: Global) -> Result<Bytes, AllocError>
-        requires root { self.now.root < 2 ^ 23 }
-        requires name { length self.now.name < 2 ^ 40 }
-        requires table { length self.now.table < 2 ^ 40 }
-        requires text { length self.now.text < 2 ^ 40 }
         ensures written { IfOk result (λ bytes. bytes ≡ spec.row_record self.now) }
         ensures is_record { IfOk result (λ bytes. IsRecord bytes (spec.row_values self.now)) }
     {
-        let types = self.types(alloc)?;
-        let mut bytes = Vec::new(alloc);
-        bytes.push((types.len() + 1) as u8)?;
-        bytes.extend_from_slice(types.as_slice())?;
-        self.push_bodies(&mut bytes)?;
-        Ok(Bytes::new(bytes))
+        let values = [
+            Value::Text(Bytes::from_slice(alloc, b"table")?),
+            Value::Text(self.name.try_clone()?),
+            Value::Text(self.table.try_clone()?),
+            Value::Int(self.root as i64),
+            Value::Text(self.text.try_clone()?),
+        ];
+        encode(alloc, &values, FORMAT)
     }
 
     /// The row's cell on a leaf page, with no overflow page (fileformat2.html, "B-tree Cell Format").
     pub fn cell(&self, alloc: Global) -> Result<Bytes, AllocError>
-        requires root { self.now.root < 2 ^ 23 }
-        requires name { length self.now.name < 2 ^ 40 }
-        requires table { length self.now.table < 2 ^ 40 }
-        requires text { length self.now.text < 2 ^ 40 }
         ensures { IfOk result (λ bytes. bytes ≡ spec.row_cell self.now) }
     {
         let record = self.record(alloc)?;
