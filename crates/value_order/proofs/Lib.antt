@@ -1,0 +1,4 @@
+pub mod Folds
+pub mod Found
+pub mod Orders
+pub mod Spaces

@@ -1,0 +1,3 @@
+pub mod Affinity
+pub mod Collation
+pub mod Order

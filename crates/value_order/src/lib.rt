@@ -1,0 +1,10 @@
+//! The affinities of columns, the collations of texts, and the order of values.
+#![tactic(auto)]
+
+mod affinity;
+mod collation;
+mod order;
+
+pub use affinity::{Affinity, affinity_of};
+pub use collation::{Collation, collation_of};
+pub use order::{NeedsReal, compare};
