@@ -3,4 +3,5 @@ pub mod Left
 pub mod Only
 pub mod Shortest
 pub mod Sizes
+pub mod ToCome
 pub mod Writable

@@ -9,8 +9,8 @@ use Rattle.record_codec.specs.declared.value.Value.{Value}
 use Rattle.record_codec.specs.declared.error.RecordError.{RecordError}
 use Rattle.record_codec.specs.declared.error.RecordError.TheVariants.{Memory, Bad}
 use Rattle.record_codec.specs.Serial.{body_size, value_of}
-use Rattle.record_codec.specs.Record.{AreBodies, AreSerials, HasHeader, IsRecord}
-use Rattle.record_codec.specs.Faults.{BeginsNoSerial, FirstBad, IsBadSerial, IsBodyFault, IsMemory, IsShortBody, IsSurplus, OnBad}
+use Rattle.record_codec.specs.Record.{AreBodies, AreSerials, HasHeader, HaveValues, IsRecord}
+use Rattle.record_codec.specs.Faults.{BeginsNoSerial, FirstBad, IsBadSerial, IsShortBody, IsSurplus}
 use Rattle.record_codec.proofs.Fronts.{nothing_begins, one_header, same_back}
 
 -- the serial types in front are one list
@@ -186,24 +186,15 @@ one_bad bytes at place (inr a) (inr b) =
     subst (λ l. IsShortBody a.0 l b.2 ⊎ IsSurplus a.0 l b.2) same.1 (subst (λ l. IsShortBody l b.1 b.2 ⊎ IsSurplus l b.1 b.2) same.0 b.4) in
     omega (arith, a.5, b.5, ap length (body_left a.0 a.1 a.2 b.2 a.4 fault))
 
--- what was found of the bodies is all that there is
-pub bad_only : (bytes : List ℕ) (r : Option ℕ) → IfSome r (IsBodyFault bytes) → IfNone r ((values : List Value) × IsRecord bytes values)
-    → (at : ℕ) → FirstBad bytes at → IsSomeAnd r (λ place. place ≡ at)
-bad_only bytes None bad whole at fault = absurd (record_not_bad bytes whole.0 at whole.1 fault)
-bad_only bytes (Some place) bad whole at fault = one_bad bytes place at (inr bad) fault
+-- a header of which the bodies have values makes a record, which has no fault
+pub parts_record : (bytes types bodies : List ℕ) → HasHeader bytes types bodies → (have : HaveValues types bodies) → IsRecord bytes have.1
+parts_record bytes types bodies h have =
+    record { types = types; bodies = bodies; serials = have.0; header = h; types_are = have.2; bodies_are = have.3 }
 
-pub none_only : (bytes : List ℕ) (r : Option ℕ) → IfSome r (IsBodyFault bytes) → (values : List Value) → IsRecord bytes values → r ≡ None
-none_only bytes None bad values is = refl
-none_only bytes (Some place) bad values is = absurd (record_not_bad bytes values place is (inr bad))
+pub parts_not_bad : (bytes types bodies : List ℕ) → HasHeader bytes types bodies → HaveValues types bodies → (at : ℕ) → FirstBad bytes at → ⊥
+parts_not_bad bytes types bodies h have at fault = record_not_bad bytes have.1 at (parts_record bytes types bodies h have) fault
 
-pub read_only : {T : Type 0} (items : T → List Value) (bytes : List ℕ) (r : Result T RecordError) → IfOk r (λ read. IsRecord bytes (items read))
-    → IfErr r (OnBad (IsBodyFault bytes)) → (values : List Value) → IsRecord bytes values → Yields IsMemory (λ read. items read ≡ values) r
-read_only items bytes (Ok read) found bad values is = one_record bytes (items read) values found is
-read_only items bytes (Err (Memory fault)) found bad values is = tt
-read_only items bytes (Err (Bad at)) found bad values is = record_not_bad bytes values at is (inr bad)
-
-pub read_first : {T : Type 0} (items : T → List Value) (bytes : List ℕ) (r : Result T RecordError) → IfOk r (λ read. IsRecord bytes (items read))
-    → IfErr r (OnBad (IsBodyFault bytes)) → (at : ℕ) → FirstBad bytes at → Yields (OnBad (λ place. place ≡ at)) (λ read. ⊥) r
-read_first items bytes (Ok read) found bad at fault = record_not_bad bytes (items read) at found fault
-read_first items bytes (Err (Memory fault)) found bad at wrong = tt
-read_first items bytes (Err (Bad place)) found bad at fault = one_bad bytes place at (inr bad) fault
+-- what is read of them is all that there is
+pub parts_only : (bytes types bodies : List ℕ) (read : List Value) → HasHeader bytes types bodies
+    → ((serials : List ℕ) × AreSerials serials types × AreBodies serials read bodies) → (values : List Value) → IsRecord bytes values → read ≡ values
+parts_only bytes types bodies read h are values is = one_record bytes read values (parts_record bytes types bodies h (are.0, read, are.1, are.2)) is

@@ -18,6 +18,10 @@ AreBodies (serial ∷ serials) (value ∷ values) bytes =
 AreBodies [] (value ∷ values) bytes = ⊥
 AreBodies (serial ∷ serials) [] bytes = ⊥
 
+-- the bytes are serial types, and the others bodies of some values under them
+abbrev pub HaveValues : List ℕ → List ℕ → Type 0
+HaveValues types bodies = (serials : List ℕ) × (values : List Value) × AreSerials serials types × AreBodies serials values bodies
+
 -- the header, which begins with its size, itself included; then its serial types, and behind it the bodies
 pub record HasHeader (bytes types bodies : List ℕ) : Type 0 where
   pub size_field : List ℕ
