@@ -57,7 +57,7 @@ pub left_values : (all_types all_bodies types bodies : List ℕ) (values : List 
     → bodies ≡ [] → HaveValues all_types all_bodies
 left_values all_types all_bodies types bodies values l none empty =
     let all : l.before ≡ all_bodies = sym (l.whole ∙ ap (λ x. l.before ++ x) empty ∙ append-nil l.before) in
-    (l.serials, values, all_read all_types all_bodies types bodies values l none, subst (λ x. AreBodies l.serials values x) all l.so_far)
+    (values, (l.serials, all_read all_types all_bodies types bodies values l none, subst (λ x. AreBodies l.serials values x) all l.so_far))
 
 -- bytes are left behind the last body
 pub left_surplus : (bytes all_types all_bodies types bodies : List ℕ) (values : List Value) → HasHeader bytes all_types all_bodies

@@ -1,4 +1,5 @@
 pub mod Fronts
+pub mod InPlace
 pub mod Left
 pub mod Only
 pub mod Shortest

@@ -4,7 +4,7 @@ use Rattle.common_laws.proofs.Lists.{same_front}
 use Rattle.alter_bytes.specs.Varint.{IsVarint}
 use Rattle.record_codec.specs.declared.value.Value.{Value}
 use Rattle.record_codec.specs.Serial.{body_size, value_of}
-use Rattle.record_codec.specs.Record.{AreBodies, AreSerials, HaveValues}
+use Rattle.record_codec.specs.Record.{AreBodies, AreSerials, AreValues, HaveValues}
 use Rattle.record_codec.specs.Faults.{BeginsNoSerial}
 use Rattle.record_codec.proofs.Fronts.{next_serial, no_more_serials, same_back}
 
@@ -21,17 +21,17 @@ pub record IsToCome (all_types all_bodies types bodies : List ℕ) (read : List 
 -- at first all are
 pub all_come : (types bodies : List ℕ) → HaveValues types bodies → IsToCome types bodies types bodies []
 all_come types bodies have = record {
-  serials = have.0;
-  others = have.0;
-  more = have.1;
-  types_are = have.2;
-  bodies_are = have.3;
-  types_left = have.2;
-  bodies_left = have.3;
+  serials = have.1.0;
+  others = have.1.0;
+  more = have.0;
+  types_are = have.1.1;
+  bodies_are = have.1.2;
+  types_left = have.1.1;
+  bodies_left = have.1.2;
 }
 
 -- the body in front is there
-body_there : (serial : ℕ) (others : List ℕ) (values : List Value) (bodies : List ℕ) → AreBodies (serial ∷ others) values bodies
+pub body_there : (serial : ℕ) (others : List ℕ) (values : List Value) (bodies : List ℕ) → AreBodies (serial ∷ others) values bodies
     → body_size serial ≤ length bodies
 body_there serial others [] bodies are = absurd are
 body_there serial others (v ∷ vs) bodies are = omega (arith, are.3.size, ap length are.2, length-append are.0 are.1)
@@ -43,7 +43,7 @@ next_there all_types all_bodies types bodies first behind read serial t split is
     body_there serial next.0 t.more bodies (subst (λ x. AreBodies x t.more bodies) next.1 t.bodies_left)
 
 -- its value is the next one
-body_taken : (serial : ℕ) (others : List ℕ) (values : List Value) (bodies body rest : List ℕ) → AreBodies (serial ∷ others) values bodies
+pub body_taken : (serial : ℕ) (others : List ℕ) (values : List Value) (bodies body rest : List ℕ) → AreBodies (serial ∷ others) values bodies
     → bodies ≡ body ++ rest → length body ≡ body_size serial → (more : List Value) × (values ≡ value_of serial body ∷ more) × AreBodies others more rest
 body_taken serial others [] bodies body rest are cut size = absurd are
 body_taken serial others (v ∷ vs) bodies body rest are cut size =
@@ -79,7 +79,7 @@ no_values (s ∷ ss) values bodies are none = absurd (omega (arith, ap length no
 
 -- where no serial type is left, all are read
 pub all_are_read : (all_types all_bodies types bodies : List ℕ) (read : List Value) → IsToCome all_types all_bodies types bodies read → BeginsNoSerial types
-    → (serials : List ℕ) × AreSerials serials all_types × AreBodies serials read all_bodies
+    → AreValues all_types all_bodies read
 all_are_read all_types all_bodies types bodies read t none =
     let end : t.more ≡ [] = no_values t.others t.more bodies t.bodies_left (no_more_serials t.others types t.types_left none) in
     (t.serials, t.types_are, subst (λ x. AreBodies t.serials x all_bodies) (ap (λ x. read ++ x) end ∙ append-nil read) t.bodies_are)

@@ -2,7 +2,7 @@
 ghost use Rattle.std.specs.Prelude.{◌≡◌, ◌+◌, ℕ, List, length, IfOk, IfErr, IfSome, IfNone, None, Err};
 ghost use Rattle.std.specs.Option.{IsSomeAnd};
 ghost use Rattle.common_laws.specs.Results.{Yields};
-ghost use Rattle.record_codec.specs.Record.{AreBodies, AreSerials, HasHeader, HaveValues, IsRecord};
+ghost use Rattle.record_codec.specs.Record.{AreSerials, AreValues, HasHeader, HaveValues, IsRecord};
 ghost use Rattle.record_codec.specs.Faults.{FirstBad, IsBodyFault, IsMemory, OnBad};
 ghost use Rattle.record_codec.specs.declared.value.Value.{Value};
 ghost use Rattle.record_codec.specs.declared.error.RecordError.TheVariants.{Bad};
@@ -39,8 +39,8 @@ pub fn first_bad(b: &[u8]) -> Option<usize>
     }
 }
 
-/// The serial types of a record and its bodies; else the place of the first fault.
-fn record_parts(b: &[u8]) -> Result<(&[u8], &[u8]), usize>
+/// The serial types of a record and its bodies; else the place of the first fault. It takes no memory.
+pub fn record_parts(b: &[u8]) -> Result<(&[u8], &[u8]), usize>
     ensures found { IfOk result (λ parts. HasHeader b.now parts.0.now parts.1.now × HaveValues parts.0.now parts.1.now) }
     ensures bad { IfErr result (FirstBad b.now) }
 {
@@ -54,7 +54,7 @@ fn record_parts(b: &[u8]) -> Result<(&[u8], &[u8]), usize>
 /// The values of the bodies under these serial types.
 fn values(alloc: Global, types: &[u8], bodies: &[u8]) -> Result<Vec<Value>, AllocError>
     requires { HaveValues types.now bodies.now }
-    ensures { IfOk result (λ read. (serials : List ℕ) × AreSerials serials types.now × AreBodies serials read.items bodies.now) }
+    ensures { IfOk result (λ read. AreValues types.now bodies.now read.items) }
 {
     let mut values = Vec::new(alloc);
     let mut left = types;

@@ -1,7 +1,7 @@
 use Rattle.std.proofs.Common.{ap}
 use Rattle.std.specs.Prelude.{Err}
 use Rattle.record_codec.specs.declared.error.RecordError.TheVariants.{Bad}
-use Rattle.record_codec.proofs.Only.{one_bad, parts_not_bad, parts_only, parts_record, record_not_bad}
+use Rattle.record_codec.proofs.Only.{one_bad, parts_not_bad, parts_only, record_not_bad}
 use Rattle.record_codec.proofs.reading.decode.Goals as goal
 
 pub returns-in_err-values-in-Ok-clause-first : goal.returns-in_err-values-in-Ok-clause-first

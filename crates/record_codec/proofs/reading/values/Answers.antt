@@ -1,4 +1,4 @@
-use Rattle.std.proofs.Common.{is_ok, sym, ap, subst, ◌∙◌}
+use Rattle.std.proofs.Common.{is_ok, sym, ap, subst}
 use Rattle.std.proofs.ResultArms.{chosen}
 use Rattle.record_codec.proofs.ToCome.{IsToCome, all_are_read, all_come, next_there, one_read}
 use Rattle.record_codec.proofs.reading.values.Goals as goal
