@@ -1,11 +1,11 @@
 -- The first value of serial types and bodies, and what is behind it.
-use Rattle.std.proofs.Common.{◌≡◌, ℕ, ◌≤◌, List, ◌∷◌, ◌++◌, length, refl, sym, subst}
+use Rattle.std.proofs.Common.{◌≡◌, ℕ, ◌≤◌, List, [], ◌∷◌, ◌++◌, length, refl, sym, subst}
 use Rattle.alter_bytes.specs.Varint.{IsVarint}
 use Rattle.record_codec.specs.declared.value.Value.{Value}
 use Rattle.record_codec.specs.Serial.{IsSerial, body_size, value_of}
-use Rattle.record_codec.specs.Record.{AreBodies, AreValues, HaveValues, IsFront}
+use Rattle.record_codec.specs.Record.{AreBodies, AreSerials, AreValues, HaveValues, IsFront}
 use Rattle.record_codec.specs.Faults.{BeginsNoSerial}
-use Rattle.record_codec.proofs.Fronts.{next_serial, no_more_serials}
+use Rattle.record_codec.proofs.Fronts.{next_serial, no_more_serials, nothing_begins}
 use Rattle.record_codec.proofs.ToCome.{body_taken, body_there}
 
 -- where no serial type stands in front there is no value
@@ -47,3 +47,18 @@ front_is types bodies first others body behind serial have split is known cut si
           let back = front_taken types bodies first others body behind serial (v ∷ values) are split is cut size in
           (same_first v value values back.0 back.1, subst (λ x. AreValues others behind x) (sym (same_others v value values back.0 back.1)) back.2);
     }
+
+-- no value is left where no byte of the serial types is, and so the other way round
+no_bytes : (serials types bodies : List ℕ) → AreSerials serials types → AreBodies serials [] bodies → types ≡ []
+no_bytes [] types bodies are none = are
+no_bytes (serial ∷ serials) types bodies are none = absurd none
+
+pub none_left : (types bodies : List ℕ) → AreValues types bodies [] → types ≡ []
+none_left types bodies are = no_bytes are.0 types bodies are.1 are.2
+
+no_more : (types bodies : List ℕ) (values : List Value) → AreValues types bodies values → types ≡ [] → AreValues types bodies []
+no_more types bodies [] are none = are
+no_more types bodies (v ∷ vs) are none = absurd (no_front types bodies (nothing_begins types none) v vs are)
+
+pub left_none : (types bodies : List ℕ) → HaveValues types bodies → types ≡ [] → AreValues types bodies []
+left_none types bodies have none = no_more types bodies have.0 have.1 none
