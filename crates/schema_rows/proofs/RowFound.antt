@@ -1,6 +1,5 @@
 -- A row against the values of its record.
-use Rattle.std.proofs.Common.{[], ◌∷◌, ◌++◌, ◌+◌, ◌==◌, ◌%◌, ◌≤◌, length-append, length, arith, pos, codes, nat_lt, if◌then◌else◌, ◌<◌, ◌^◌, Option, Some, None, IfSome, ◌≡◌, ℕ, Bool, true, false, List, sym, ap, ap₂, subst, ◌∙◌}
-use Rattle.std.proofs.lemmas.List.{same_from_push}
+use Rattle.std.proofs.Common.{[], ◌∷◌, ◌++◌, ◌+◌, ◌==◌, ◌%◌, ◌≤◌, length-append, length, arith, pos, nat_lt, if◌then◌else◌, ◌≡◌, ℕ, ℤ, Bool, true, false, List, sym, ap, subst, ◌∙◌}
 use Rattle.record_codec.specs.declared.value.Value.{Value}
 use Rattle.record_codec.specs.declared.value.Value.TheVariants.{Null, Int, Real, Text, Blob}
 use Rattle.record_codec.specs.Serial.{value_of}
@@ -48,12 +47,28 @@ pub texts-le : (payload name table : List ℕ) (root : ℕ) (text : List ℕ) �
 texts-le payload name table root text is =
     omega (arith, ap length is.header.whole, length-append (is.header.size_field ++ is.types) is.bodies, bodies-le is.serials (table_values name table root text) is.bodies is.bodies_are)
 
--- rows of the same record are the same
-same_values : (row : SchemaRow) (name table : List ℕ) (root : ℕ) (text : List ℕ) → table_values name table root text ≡ row_values row
-    → (name ≡ row.name) × (table ≡ row.table) × (root ≡ row.root) × (text ≡ row.text)
-same_values row name table root text same = (cc, cc, cc, cc)
+-- the parts of equal values are equal
+pub same_text : (a b : List ℕ) → Text a ≡ Text b → a ≡ b
+same_text a b same = cc
 
-pub one_row : (payload : List ℕ) (found row : SchemaRow) → found.rowid ≡ row.rowid → IsRecord payload (row_values found) → IsRecord payload (row_values row) → found ≡ row
-one_row payload found row at is also =
-    let same = same_values row found.name found.table found.root found.text (one_record payload (row_values found) (row_values row) is also) in
-    cc
+pub same_integer : (a b : ℤ) → Int a ≡ Int b → a ≡ b
+same_integer a b same = cc
+
+-- rows of the same record are the same
+same_row : (rowid : ℕ) (name table : List ℕ) (root : ℕ) (text : List ℕ) (row : SchemaRow) → rowid ≡ row.rowid → table_values name table root text ≡ row_values row
+    → record { rowid = rowid; name = name; table = table; root = root; text = text } ≡ row
+same_row rowid name table root text row at same =
+    let of : ℕ → List ℕ → List ℕ → ℕ → List ℕ → SchemaRow = λ r n t o x. record { rowid = r; name = n; table = t; root = o; text = x } in
+    let names : name ≡ row.name = cc in
+    let tables : table ≡ row.table = cc in
+    let roots : root ≡ row.root = cc in
+    let texts : text ≡ row.text = cc in
+    ap (λ r. of r name table root text) at ∙ ap (λ n. of row.rowid n table root text) names ∙ ap (λ t. of row.rowid row.name t root text) tables
+    ∙ ap (λ o. of row.rowid row.name row.table o text) roots ∙ ap (of row.rowid row.name row.table row.root) texts
+
+pub one_row : (payload : List ℕ) (rowid root : ℕ) (name table text n t x : List ℕ) (row : SchemaRow) → name ≡ n → table ≡ t → text ≡ x
+    → IsRecord payload (table_values n t root x) → row.rowid ≡ rowid → IsRecord payload (row_values row)
+    → record { rowid = rowid; name = name; table = table; root = root; text = text } ≡ row
+one_row payload rowid root name table text n t x row names tables texts is at also =
+    let same : table_values n t root x ≡ row_values row = one_record payload (table_values n t root x) (row_values row) is also in
+    same_row rowid name table root text row (sym at) cc
