@@ -1,4 +1,5 @@
 pub mod Folds
+pub mod Forms
 pub mod Found
 pub mod Orders
 pub mod Runs

@@ -42,7 +42,7 @@ pub record IsSigned (text : List ℕ) (z : ℤ) : Type 0 where
   pub sign : List ℕ
   pub digits : List ℕ
   pub back : List ℕ
-  pub whole : text ≡ sign ++ digits ++ back
+  pub whole : text ≡ sign ++ (digits ++ back)
   pub signed : IsSign sign
   pub some : 1 ≤ length digits
   pub are_digits : AreDigits digits
@@ -71,7 +71,7 @@ pub record IsUnsigned (text : List ℕ) : Type 0 where
   pub fraction : List ℕ
   pub more_digits : List ℕ
   pub back : List ℕ
-  pub whole : text ≡ digits ++ fraction ++ back
+  pub whole : text ≡ digits ++ (fraction ++ back)
   pub are_digits : AreDigits digits
   pub fraction_is : IsFraction fraction more_digits
   pub some : 1 ≤ length digits + length more_digits
@@ -82,7 +82,7 @@ pub record IsNumber (text : List ℕ) : Type 0 where
   pub front : List ℕ
   pub sign : List ℕ
   pub number : List ℕ
-  pub whole : text ≡ front ++ sign ++ number
+  pub whole : text ≡ front ++ (sign ++ number)
   pub are_blanks : AreBlanks front
   pub signed : IsSign sign
   pub unsigned : IsUnsigned number

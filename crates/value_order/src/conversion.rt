@@ -84,8 +84,8 @@ fn apply_text(from: Affinity, to: Affinity, text: Bytes) -> Result<Value, ApplyE
             Form::Other => Ok(Value::Text(text)),
         },
         Affinity::Real => match form_of(text.as_slice()) {
+            Form::Integer(_) | Form::Number => Err(ApplyError::NeedsReal),
             Form::Other => Ok(Value::Text(text)),
-            _ => Err(ApplyError::NeedsReal),
         },
     }
 }

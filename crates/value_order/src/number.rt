@@ -143,6 +143,7 @@ fn is_unsigned(text: &[u8]) -> bool
 /// The integer of the digits, where it is one of 64 signed bits.
 fn integer(minus: bool, digits: &[u8]) -> Option<i64>
     ensures found { IfSome result (λ z. z ≡ signed_number minus digits.now) }
+    ensures fits { IfSome result (λ z. Fits z) }
     ensures none { IfNone result (Fits (signed_number minus digits.now) → ⊥) }
 {
     if minus {
