@@ -3,6 +3,7 @@ use Rattle.std.proofs.Common.{◌≡◌, ℕ, zero, suc, ◌+◌, ◌-◌, ◌<�
 use Rattle.std.proofs.lemmas.Bool.{cond-false, cond-true, true≢false, eqb-true}
 use Rattle.std.proofs.lemmas.Bool.Decides.{nat_tests}
 use Rattle.std.specs.Prelude.{nat_lt, ℤ, pos, negsuc}
+use Rattle.std.proofs.lemmas.Int.{ints}
 use Rattle.std.specs.List.{list_all}
 use Rattle.value_order.specs.declared.number.Form.{Form}
 use Rattle.value_order.specs.declared.number.Form.TheVariants.{Integer as IntegerForm, Number}
@@ -434,8 +435,8 @@ pub fitting_number : (text : List ℕ) (z : ℤ) → IsFitting text z → IsNumb
 fitting_number text z f = integer_number text z f.integer
 
 pub sfits : (z : ℤ) → Fits z → SFits w64 z
-sfits (pos n) fits = fits
-sfits (negsuc n) fits = fits
+sfits (pos n) fits = omega (arith, ints)
+sfits (negsuc n) fits = omega (arith, ints)
 
 -- what is found out to be a number, an integer or another one, is a number
 pub form_number : (form : Form) (text : List ℕ) → ((z : ℤ) × (form ≡ IntegerForm z)) ⊎ (form ≡ Number) → IsForm form text → IsNumber text
