@@ -1,3 +1,4 @@
+pub mod Applies
 pub mod Folds
 pub mod Forms
 pub mod Found

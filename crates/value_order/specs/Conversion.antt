@@ -53,6 +53,16 @@ abbrev pub IsWritten : Affinity → Value → Type 0
 IsWritten ToText (Int z) = Unit {0}
 IsWritten to v = ⊥
 
+-- The forms are told apart: a text is one integer at most, and an integer is a number.
+pub record AreForms : Type 0 where
+  pub one_integer : (text : List ℕ) (x y : ℤ) → IsInteger text x → IsInteger text y → x ≡ y
+  pub integer_is_number : (text : List ℕ) (z : ℤ) → IsInteger text z → IsNumber text
+
+-- the error is want of memory
+abbrev pub IsMemory : ApplyError → Type 0
+IsMemory (Memory fault) = Unit {0}
+IsMemory NeedsReal = ⊥
+
 -- the conversion's result: `NeedsReal` exactly where a real is asked for; want of memory only where an integer is to become
 -- a text without one
 abbrev pub Applied : Affinity → Affinity → Value → Result Value ApplyError → Type 0

@@ -1,7 +1,7 @@
 //! What becomes of a value under an affinity (datatype3.html, "Type Affinity").
-ghost use Rattle.std.specs.Prelude.{◌≡◌, ◌↔◌, IfOk, IsTrue};
+ghost use Rattle.std.specs.Prelude.{◌≡◌, ◌↔◌, IfErr, IfOk, IsErrOf};
 ghost use Rattle.std.specs.Fmt.{signed_decimal};
-ghost use Rattle.value_order.specs.Conversion.{AsksReal, Becomes, Applied};
+ghost use Rattle.value_order.specs.Conversion.{Applied, AreForms, AsksReal, Becomes, IsMemory, IsWritten};
 
 use crate::affinity::Affinity;
 use crate::number::{Form, form_of};
@@ -28,17 +28,27 @@ impl From<AllocError> for ApplyError {
     }
 }
 
-/// The value of a column with the affinity `from`, put into a column with the affinity `to`. Memory is asked for only
-/// where an integer becomes a text.
+/// The value of a column with the affinity `from`, put into a column with the affinity `to`: integers become texts, and
+/// texts integers. `NeedsReal` comes exactly where a real would have to be read or written as a number, and memory is
+/// asked for only where an integer becomes a text.
 pub fn apply(alloc: Global, from: Affinity, to: Affinity, v: Value) -> Result<Value, ApplyError>
+    ensures value { IfOk result (λ after. Becomes to v after) }
+    ensures needs_real { IsErrOf result ApplyError.NeedsReal ↔ AsksReal from to v }
+    ensures only { IfErr result (λ error. IsMemory error → IsWritten to v) }
+    ensures forms { AreForms }
+{
+    applied(alloc, from, to, v)
+}
+
+fn applied(alloc: Global, from: Affinity, to: Affinity, v: Value) -> Result<Value, ApplyError>
     ensures { Applied from to v result }
 {
-    match (to, v) {
-        (_, Value::Null) => Ok(Value::Null),
-        (_, Value::Blob(bytes)) => Ok(Value::Blob(bytes)),
-        (_, Value::Int(n)) => apply_int(alloc, from, to, n),
-        (_, Value::Real(bytes)) => apply_real(from, to, bytes),
-        (_, Value::Text(text)) => apply_text(from, to, text),
+    match v {
+        Value::Null => Ok(Value::Null),
+        Value::Blob(bytes) => Ok(Value::Blob(bytes)),
+        Value::Int(n) => apply_int(alloc, from, to, n),
+        Value::Real(bytes) => apply_real(from, to, bytes),
+        Value::Text(text) => apply_text(from, to, text),
     }
 }
 
