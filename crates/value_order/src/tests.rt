@@ -7,7 +7,7 @@ use std::test::Fail;
 
 /// What a conversion gave, as far as the tests ask.
 #[derive(Clone, Copy, Debug, PartialEq, Eq)]
-enum Gave {
+enum Outcome {
     Integer(i64),
     /// A text of so many bytes.
     Text(usize),
@@ -18,21 +18,21 @@ enum Gave {
     Memory,
 }
 
-fn gave(result: Result<Value, ApplyError>) -> Gave {
-    match result {
-        Ok(Value::Int(n)) => Gave::Integer(n),
-        Ok(Value::Text(text)) => Gave::Text(text.len()),
-        Ok(Value::Real(_)) => Gave::Real,
-        Ok(Value::Blob(_)) => Gave::Blob,
-        Ok(Value::Null) => Gave::Null,
-        Err(ApplyError::NeedsReal) => Gave::NeedsReal,
-        Err(ApplyError::Memory(_)) => Gave::Memory,
+fn outcome_of(given: Result<Value, ApplyError>) -> Outcome {
+    match given {
+        Ok(Value::Int(n)) => Outcome::Integer(n),
+        Ok(Value::Text(text)) => Outcome::Text(text.len()),
+        Ok(Value::Real(_)) => Outcome::Real,
+        Ok(Value::Blob(_)) => Outcome::Blob,
+        Ok(Value::Null) => Outcome::Null,
+        Err(ApplyError::NeedsReal) => Outcome::NeedsReal,
+        Err(ApplyError::Memory(_)) => Outcome::Memory,
     }
 }
 
-fn text_to(alloc: Global, to: Affinity, text: &[u8]) -> Result<Gave, AllocError> {
+fn text_to(alloc: Global, to: Affinity, text: &[u8]) -> Result<Outcome, AllocError> {
     let value = Value::Text(Bytes::from_slice(alloc, text)?);
-    Ok(gave(apply(alloc, Affinity::Blob, to, value)))
+    Ok(outcome_of(apply(alloc, Affinity::Blob, to, value)))
 }
 
 #[test]
@@ -51,20 +51,20 @@ fn texts_that_are_integers(rt: HostRuntime) -> Result<(), Fail> {
     for (text, number) in table {
         assert_eq!(rt;
             text_to(rt.alloc(), Affinity::Integer, text)?,
-            Gave::Integer(number)
+            Outcome::Integer(number)
         );
         assert_eq!(rt;
             text_to(rt.alloc(), Affinity::Numeric, text)?,
-            Gave::Integer(number)
+            Outcome::Integer(number)
         );
-        assert_eq!(rt; text_to(rt.alloc(), Affinity::Real, text)?, Gave::NeedsReal);
+        assert_eq!(rt; text_to(rt.alloc(), Affinity::Real, text)?, Outcome::NeedsReal);
         assert_eq!(rt;
             text_to(rt.alloc(), Affinity::Text, text)?,
-            Gave::Text(text.len())
+            Outcome::Text(text.len())
         );
         assert_eq!(rt;
             text_to(rt.alloc(), Affinity::Blob, text)?,
-            Gave::Text(text.len())
+            Outcome::Text(text.len())
         );
     }
     Ok(())
@@ -86,9 +86,9 @@ fn texts_that_are_other_numbers(rt: HostRuntime) -> Result<(), Fail> {
     for text in table {
         assert_eq!(rt;
             text_to(rt.alloc(), Affinity::Numeric, text)?,
-            Gave::NeedsReal
+            Outcome::NeedsReal
         );
-        assert_eq!(rt; text_to(rt.alloc(), Affinity::Real, text)?, Gave::NeedsReal);
+        assert_eq!(rt; text_to(rt.alloc(), Affinity::Real, text)?, Outcome::NeedsReal);
     }
     Ok(())
 }
@@ -102,11 +102,11 @@ fn texts_that_are_no_numbers(rt: HostRuntime) -> Result<(), Fail> {
     for text in table {
         assert_eq!(rt;
             text_to(rt.alloc(), Affinity::Integer, text)?,
-            Gave::Text(text.len())
+            Outcome::Text(text.len())
         );
         assert_eq!(rt;
             text_to(rt.alloc(), Affinity::Real, text)?,
-            Gave::Text(text.len())
+            Outcome::Text(text.len())
         );
     }
     Ok(())
@@ -116,7 +116,8 @@ fn texts_that_are_no_numbers(rt: HostRuntime) -> Result<(), Fail> {
 fn integers_and_reals(rt: HostRuntime) -> Result<(), Fail> {
     use Affinity::{Blob, Integer, Numeric, Real, Text};
     let alloc = rt.alloc();
-    match apply(alloc, Integer, Text, Value::Int(i64::MIN)) {
+    let least = apply(alloc, Integer, Text, Value::Int(i64::MIN));
+    match &least {
         Ok(Value::Text(text)) => assert_eq!(rt;
             text.as_slice(),
             b"-9223372036854775808".as_slice()
@@ -124,44 +125,44 @@ fn integers_and_reals(rt: HostRuntime) -> Result<(), Fail> {
         _ => assert!(rt; false),
     }
     assert_eq!(rt;
-        gave(apply(alloc, Blob, Numeric, Value::Int(5))),
-        Gave::Integer(5)
+        outcome_of(apply(alloc, Blob, Numeric, Value::Int(5))),
+        Outcome::Integer(5)
     );
     assert_eq!(rt;
-        gave(apply(alloc, Integer, Real, Value::Int(5))),
-        Gave::NeedsReal
+        outcome_of(apply(alloc, Integer, Real, Value::Int(5))),
+        Outcome::NeedsReal
     );
     assert_eq!(rt;
-        gave(apply(alloc, Real, Real, Value::Int(5))),
-        Gave::Integer(5)
+        outcome_of(apply(alloc, Real, Real, Value::Int(5))),
+        Outcome::Integer(5)
     );
     assert_eq!(rt;
-        gave(apply(alloc, Real, Blob, Value::Int(5))),
-        Gave::NeedsReal
+        outcome_of(apply(alloc, Real, Blob, Value::Int(5))),
+        Outcome::NeedsReal
     );
     assert_eq!(rt;
-        gave(apply(alloc, Real, Text, Value::Int(5))),
-        Gave::NeedsReal
+        outcome_of(apply(alloc, Real, Text, Value::Int(5))),
+        Outcome::NeedsReal
     );
     assert_eq!(rt;
-        gave(apply(alloc, Real, Text, Value::Real([0; 8]))),
-        Gave::NeedsReal
+        outcome_of(apply(alloc, Real, Text, Value::Real([0; 8]))),
+        Outcome::NeedsReal
     );
     assert_eq!(rt;
-        gave(apply(alloc, Blob, Real, Value::Real([0; 8]))),
-        Gave::Real
+        outcome_of(apply(alloc, Blob, Real, Value::Real([0; 8]))),
+        Outcome::Real
     );
     assert_eq!(rt;
-        gave(apply(alloc, Numeric, Integer, Value::Real([0; 8]))),
-        Gave::Real
+        outcome_of(apply(alloc, Numeric, Integer, Value::Real([0; 8]))),
+        Outcome::Real
     );
     assert_eq!(rt;
-        gave(apply(alloc, Blob, Integer, Value::Real([0; 8]))),
-        Gave::NeedsReal
+        outcome_of(apply(alloc, Blob, Integer, Value::Real([0; 8]))),
+        Outcome::NeedsReal
     );
-    assert_eq!(rt; gave(apply(alloc, Real, Integer, Value::Null)), Gave::Null);
+    assert_eq!(rt; outcome_of(apply(alloc, Real, Integer, Value::Null)), Outcome::Null);
     let blob = Value::Blob(Bytes::from_slice(alloc, b"12")?);
-    assert_eq!(rt; gave(apply(alloc, Blob, Integer, blob)), Gave::Blob);
+    assert_eq!(rt; outcome_of(apply(alloc, Blob, Integer, blob)), Outcome::Blob);
     Ok(())
 }
 
