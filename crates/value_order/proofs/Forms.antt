@@ -1,6 +1,6 @@
 -- Texts that are numbers are those that are read as such.
-use Rattle.std.proofs.Common.{◌≡◌, ℕ, zero, suc, ◌+◌, ◌-◌, ◌<◌, ◌≤◌, ◌⊎◌, ⊎_elim, inl, inr, Bool, true, false, IsTrue, cond, ◌&&◌, ◌||◌, eqb, List, [], ◌∷◌, ◌++◌, length, refl, sym, ap, ap₂, ◌∙◌, subst, arith, length-append, SFits, w64}
-use Rattle.std.proofs.lemmas.Bool.{cond-false, cond-true, true≢false, eqb-true}
+use Rattle.std.proofs.Common.{◌≡◌, ℕ, zero, suc, ◌+◌, ◌<◌, ◌≤◌, ◌⊎◌, ⊎_elim, inl, inr, Bool, true, false, cond, ◌&&◌, ◌||◌, eqb, List, [], ◌∷◌, ◌++◌, length, refl, sym, ap, ap₂, ◌∙◌, subst, arith, length-append, SFits, w64}
+use Rattle.std.proofs.lemmas.Bool.{cond-false, true≢false, eqb-true}
 use Rattle.std.proofs.lemmas.Bool.Decides.{nat_tests}
 use Rattle.std.specs.Prelude.{nat_lt, ℤ, pos, negsuc}
 use Rattle.std.proofs.lemmas.Int.{ints}
@@ -193,7 +193,7 @@ its_number text z s =
     ∙ ap₂ signed_number
     (sym (minus_behind s.sign (s.digits ++ s.back) s.signed (digits_no_sign s.digits s.back s.some s.are_digits)) ∙ ap begins_minus (sym s.whole))
     (sym (front_through is_digit s.digits s.back s.are_digits (blanks_no_digit s.back s.are_blanks))
-        ∙ ap (front is_digit) (sym (behind_its_sign text z s)))
+    ∙ ap (front is_digit) (sym (behind_its_sign text z s)))
 
 -- an exponent, if any, and blanks
 exponent_to : (text : List ℕ) → reads_exponent text ≡ true → IsNumberEnd text
@@ -201,7 +201,10 @@ exponent_to [] read = absurd (true≢false (sym read))
 exponent_to (e ∷ exponent) read =
     let (letter, signed) = and_parts (eqb e 101 || eqb e 69) (reads_signed exponent) read in
     inr (
-      e, exponent, number_at exponent, refl,
+      e,
+      exponent,
+      number_at exponent,
+      refl,
       ⊎_elim (λ h. inl (eqb-true e 101 h)) (λ h. inr (eqb-true e 69 h)) (or_parts (eqb e 101) (eqb e 69) letter),
       signed_to exponent signed,
     )
@@ -318,20 +321,20 @@ pub unsigned_from : (text : List ℕ) → IsUnsigned text → reads_unsigned tex
 unsigned_from text u =
     let more = u.fraction ++ u.back in
     let first : past is_digit text ≡ more =
-        ap (past is_digit) u.whole ∙ past_through is_digit u.digits more u.are_digits (fraction_no_digit u.fraction u.more_digits u.back u.fraction_is u.ends) in
+    ap (past is_digit) u.whole ∙ past_through is_digit u.digits more u.are_digits (fraction_no_digit u.fraction u.more_digits u.back u.fraction_is u.ends) in
     let rest : past_point (past is_digit text) ≡ u.more_digits ++ u.back =
-        ap past_point first ∙ behind_point u.fraction u.more_digits u.back u.fraction_is u.ends in
+    ap past_point first ∙ behind_point u.fraction u.more_digits u.back u.fraction_is u.ends in
     let back : past is_digit (past_point (past is_digit text)) ≡ u.back =
-        ap (past is_digit) rest
-        ∙ past_through is_digit u.more_digits u.back (are_digits_of u.fraction u.more_digits u.fraction_is) (end_no_digit u.back u.ends) in
+    ap (past is_digit) rest
+    ∙ past_through is_digit u.more_digits u.back (are_digits_of u.fraction u.more_digits u.fraction_is) (end_no_digit u.back u.ends) in
     ap (λ l. reads_rest text l (past_point (past is_digit text)) (past is_digit (past_point (past is_digit text)))) first
     ∙ ap (λ l. reads_rest text more l (past is_digit (past_point (past is_digit text)))) rest
     ∙ ap (λ l. reads_rest text more (u.more_digits ++ u.back) l) back
     ∙ both (is_shorter more text || is_shorter u.back (u.more_digits ++ u.back)) (reads_end u.back)
     (⊎_elim
-        (λ h. ap (λ s. s || is_shorter u.back (u.more_digits ++ u.back)) (ap (is_shorter more) u.whole ∙ some_shorter u.digits more h))
-        (λ h. or_right (is_shorter more text) (is_shorter u.back (u.more_digits ++ u.back)) (some_shorter u.more_digits u.back h))
-        (some_digit (length u.digits) (length u.more_digits) u.some))
+    (λ h. ap (λ s. s || is_shorter u.back (u.more_digits ++ u.back)) (ap (is_shorter more) u.whole ∙ some_shorter u.digits more h))
+    (λ h. or_right (is_shorter more text) (is_shorter u.back (u.more_digits ++ u.back)) (some_shorter u.more_digits u.back h))
+    (some_digit (length u.digits) (length u.more_digits) u.some))
     (end_from u.back u.ends)
 
 -- the whole text
@@ -379,8 +382,8 @@ pub number_from : (text : List ℕ) → IsNumber text → reads_unsigned (past_s
 number_from text n =
     let start : begins_number n.number = begins n.number n.unsigned in
     let first : past is_blank text ≡ n.sign ++ n.number =
-        ap (past is_blank) n.whole
-        ∙ past_through is_blank n.front (n.sign ++ n.number) n.are_blanks (sign_no_blank n.sign n.number n.signed (begins_no_blank n.number start)) in
+    ap (past is_blank) n.whole
+    ∙ past_through is_blank n.front (n.sign ++ n.number) n.are_blanks (sign_no_blank n.sign n.number n.signed (begins_no_blank n.number start)) in
     ap (λ l. reads_unsigned (past_sign l)) first
     ∙ ap reads_unsigned (behind_sign n.sign n.number n.signed (begins_no_sign n.number start))
     ∙ unsigned_from n.number n.unsigned

@@ -1,4 +1,4 @@
--- How the bytes of a text are read from the front on.
+-- How the bytes of a text are read from the front on, as the private functions of `number` read them. What a number is, `Number` says.
 use Rattle.std.specs.Prelude.{ℕ, ◌==◌, nat_lt, ◌&&◌, ◌||◌, Bool, false, if◌then◌else◌, List, [], ◌∷◌, length}
 use Rattle.value_order.specs.Number.{is_blank, is_digit}
 

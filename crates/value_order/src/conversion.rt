@@ -78,9 +78,14 @@ fn apply_real(from: Affinity, to: Affinity, bytes: [u8; 8]) -> Result<Value, App
     let stays = match to {
         Affinity::Blob | Affinity::Real => true,
         Affinity::Text => false,
-        Affinity::Integer | Affinity::Numeric => from == Affinity::Integer || from == Affinity::Numeric,
+        Affinity::Integer | Affinity::Numeric => from == Affinity::Integer
+            || from == Affinity::Numeric,
     };
-    if stays { Ok(Value::Real(bytes)) } else { Err(ApplyError::NeedsReal) }
+    if stays {
+        Ok(Value::Real(bytes))
+    } else {
+        Err(ApplyError::NeedsReal)
+    }
 }
 
 fn apply_text(from: Affinity, to: Affinity, text: Bytes) -> Result<Value, ApplyError>

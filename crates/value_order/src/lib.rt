@@ -6,6 +6,8 @@ mod collation;
 mod conversion;
 mod number;
 mod order;
+#[cfg(test)]
+mod tests;
 
 pub use affinity::{Affinity, affinity_of};
 pub use collation::{Collation, collation_of};

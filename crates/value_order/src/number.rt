@@ -5,7 +5,7 @@ ghost use Rattle.value_order.specs.Number.{Fits, begins_minus, is_blank, is_digi
 ghost use Rattle.value_order.specs.Runs.{front, past, past_point, past_sign, reads_end, reads_exponent, reads_signed, reads_unsigned};
 
 /// What number a text is.
-#[derive(Clone, Copy, Debug, PartialEq, Eq)]
+#[derive(Clone, Copy)]
 pub enum Form {
     /// The integer of a text of the integer form that fits 64 signed bits.
     Integer(i64),
