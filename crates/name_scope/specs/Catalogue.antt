@@ -1,18 +1,18 @@
 -- The catalogue: what is known of each object of a schema.
-use Rattle.std.specs.Prelude.{◌≡◌, ◌≢◌, ℕ, ◌+◌, ◌-◌, ◌^◌, min, ◌==◌, List, [], slice_get, Option, Some, None, option_map, option_and_then, IsSome}
+use Rattle.std.specs.Prelude.{◌≡◌, ℕ, ◌+◌, ◌-◌, ◌^◌, min, nat_eq, if◌then◌else◌, List, [], Option, Some, None, unwrap_or, IsSome}
 use Rattle.std.specs.Option.{option_map_or}
-use Rattle.std.specs.List.{position_from}
+use Rattle.indexmap.specs.IndexMap.{get}
 use Rattle.name_scope.specs.declared.catalogue.Catalogue.{Catalogue}
-use Rattle.name_scope.specs.declared.catalogue.Known.{Known}
 use Rattle.name_scope.specs.declared.level.Binder.{Binder}
 use Rattle.name_scope.specs.declared.level.Level.{Level}
 use Rattle.name_scope.specs.declared.level.Resolved.{Resolved}
 use Rattle.name_scope.specs.declared.row.Row.{Row}
 use Rattle.name_scope.specs.declared.usage.Use.{Use}
+use Rattle.name_scope.specs.Sees.{row_of}
 
--- the place of the row of this rowid
-abbrev pub place_of : List Row → ℕ → Option ℕ
-place_of rows rowid = position_from (λ r. r.rowid == rowid) 0 rows
+-- one text more was parsed, as far as the count goes
+abbrev pub one_more : ℕ → ℕ
+one_more reads = min (reads + 1) (2 ^ 64 - 1)
 
 module _ {T : Type 0} where
   abbrev pub rows_of : Catalogue T → List Row
@@ -21,51 +21,60 @@ module _ {T : Type 0} where
   abbrev pub reads_of : Catalogue T → ℕ
   reads_of c = c.reads
 
-  -- what is known of the object of this rowid, where there is one
-  abbrev pub known_of : Catalogue T → ℕ → Option (Known T)
-  known_of c rowid = option_and_then (slice_get c.known.items) (place_of c.rows rowid)
-
-  abbrev pub HasRow : Catalogue T → ℕ → Type 0
-  HasRow c rowid = IsSome (place_of c.rows rowid)
-
+  -- the tree of the object of this rowid, where it is known
   abbrev pub tree_of : Catalogue T → ℕ → Option T
-  tree_of c rowid = option_and_then (λ k. k.tree) (known_of c rowid)
+  tree_of c row = get nat_eq c.trees row
 
   abbrev pub columns_of : Catalogue T → ℕ → List Binder
-  columns_of c rowid = option_map_or (λ k. k.columns) [] (known_of c rowid)
+  columns_of c row = unwrap_or (get nat_eq c.columns row) []
 
   abbrev pub uses_of : Catalogue T → ℕ → List Use
-  uses_of c rowid = option_map_or (λ k. k.uses) [] (known_of c rowid)
+  uses_of c row = option_map_or (λ f. f.uses) (get nat_eq c.found row) []
 
   abbrev pub levels_of : Catalogue T → ℕ → List Level
-  levels_of c rowid = option_map_or (λ k. k.levels) [] (known_of c rowid)
+  levels_of c row = option_map_or (λ f. f.levels) (get nat_eq c.found row) []
 
-  -- of the object of this rowid another thing is known, and of each other object the same; the rows stay
-  pub record Learns (f : Known T → Known T) (old new : Catalogue T) (rowid : ℕ) : Type 0 where
-    pub rows : rows_of new ≡ rows_of old
-    pub learnt : known_of new rowid ≡ option_map f (known_of old rowid)
-    pub others : (other : ℕ) → other ≢ rowid → known_of new other ≡ known_of old other
-
--- one text more was parsed, as far as the count goes
-abbrev pub one_more : ℕ → ℕ
-one_more reads = min (reads + 1) (2 ^ 64 - 1)
-
-module _ {T : Type 0} where
-  abbrev pub knows_tree : T → Known T → Known T
-  knows_tree tree k = record k { tree = Some tree }
-
-  abbrev pub knows_columns : List Binder → Known T → Known T
-  knows_columns columns k = record k { columns = columns }
-
-  abbrev pub knows_found : Resolved → Known T → Known T
-  knows_found found k = record k { uses = found.uses; levels = found.levels }
-
-  -- of none of the rows anything is known
-  abbrev pub knows_nothing : Known T
-  knows_nothing = record { tree = None; columns = []; uses = []; levels = [] }
+  abbrev pub HasRow : Catalogue T → ℕ → Type 0
+  HasRow c row = IsSome (row_of (rows_of c) row)
 
   -- the catalogue has these rows, nothing is known of their objects, and no text was parsed
   pub record IsBare (rows : List Row) (c : Catalogue T) : Type 0 where
     pub same_rows : rows_of c ≡ rows
-    pub bare : (rowid : ℕ) → HasRow c rowid → known_of c rowid ≡ Some knows_nothing
+    pub trees : (r : ℕ) → tree_of c r ≡ None
+    pub columns : (r : ℕ) → columns_of c r ≡ []
+    pub uses : (r : ℕ) → uses_of c r ≡ []
+    pub levels : (r : ℕ) → levels_of c r ≡ []
     pub unread : reads_of c ≡ 0
+
+  -- of each object the same is known, and as many texts were parsed
+  pub record IsSame (old new : Catalogue T) : Type 0 where
+    pub rows : rows_of new ≡ rows_of old
+    pub trees : (r : ℕ) → tree_of new r ≡ tree_of old r
+    pub columns : (r : ℕ) → columns_of new r ≡ columns_of old r
+    pub uses : (r : ℕ) → uses_of new r ≡ uses_of old r
+    pub levels : (r : ℕ) → levels_of new r ≡ levels_of old r
+    pub reads : reads_of new ≡ reads_of old
+
+  -- the object of the row has this tree, and nothing else is known anew
+  pub record SetsTree (old new : Catalogue T) (row : ℕ) (tree : T) : Type 0 where
+    pub rows : rows_of new ≡ rows_of old
+    pub trees : (r : ℕ) → tree_of new r ≡ (if nat_eq row r then Some tree else tree_of old r)
+    pub columns : (r : ℕ) → columns_of new r ≡ columns_of old r
+    pub uses : (r : ℕ) → uses_of new r ≡ uses_of old r
+    pub levels : (r : ℕ) → levels_of new r ≡ levels_of old r
+
+  -- the object of the row has these columns, and nothing else is known anew
+  pub record SetsColumns (old new : Catalogue T) (row : ℕ) (found : List Binder) : Type 0 where
+    pub rows : rows_of new ≡ rows_of old
+    pub trees : (r : ℕ) → tree_of new r ≡ tree_of old r
+    pub columns : (r : ℕ) → columns_of new r ≡ (if nat_eq row r then found else columns_of old r)
+    pub uses : (r : ℕ) → uses_of new r ≡ uses_of old r
+    pub levels : (r : ℕ) → levels_of new r ≡ levels_of old r
+
+  -- the text of the object has these uses and levels, and nothing else is known anew
+  pub record SetsFound (old new : Catalogue T) (row : ℕ) (found : Resolved) : Type 0 where
+    pub rows : rows_of new ≡ rows_of old
+    pub trees : (r : ℕ) → tree_of new r ≡ tree_of old r
+    pub columns : (r : ℕ) → columns_of new r ≡ columns_of old r
+    pub uses : (r : ℕ) → uses_of new r ≡ (if nat_eq row r then found.uses else uses_of old r)
+    pub levels : (r : ℕ) → levels_of new r ≡ (if nat_eq row r then found.levels else levels_of old r)

@@ -8,7 +8,7 @@ use Rattle.name_scope.specs.declared.level.Binder.{Binder}
 
 -- a column has this name, which is folded
 abbrev pub has_folded_name : List ℕ → Binder → Bool
-has_folded_name name column = option_map_or (λ own. pointwise nat_eq (folded own) name) false column.name
+has_folded_name name column = option_map_or (λ own. pointwise nat_eq (folded own) name) column.name false
 
 -- the place of the first column whose folded name this is
 abbrev pub ordinal_in : List Binder → List ℕ → Option ℕ

@@ -1,5 +1,5 @@
 -- Which of the binders that a use sees is nearer, and the one that the use denotes.
-use Rattle.std.specs.Prelude.{◌≡◌, ◌≢◌, ℕ, ◌<◌, ◌⊎◌, List, slice_get, Option, Some, None}
+use Rattle.std.specs.Prelude.{◌≡◌, ◌≢◌, ℕ, ◌<◌, ◌⊎◌, List, length, slice_get, Option, Some, None}
 use Rattle.name_scope.specs.declared.level.Sight.{Sight}
 
 -- a binder that a use sees, with its number of scopes outward
@@ -20,8 +20,11 @@ abbrev pub IsInReach : Option Seen → Seen → Type 0
 IsInReach None s = Unit {0}
 IsInReach (Some target) s = ¬ IsNearer target s
 
+-- what stands at the other place, if that is another one, is farther than what stands at this place
+abbrev pub IsBehind : List Seen → ℕ → ℕ → Type 0
+IsBehind seen place at = (target other : Seen) → at ≢ place → slice_get seen place ≡ Some target → slice_get seen at ≡ Some other → IsNearer target other
+
 -- of the binders that are seen, the one at this place is nearer than each other one
 pub record Denotes (seen : List Seen) (place : ℕ) : Type 0 where
-  pub target : Seen
-  pub there : slice_get seen place ≡ Some target
-  pub nearest : (at : ℕ) (other : Seen) → at ≢ place → slice_get seen at ≡ Some other → IsNearer target other
+  pub there : place < length seen
+  pub nearest : (at : ℕ) → IsBehind seen place at

@@ -15,4 +15,4 @@ new_level outer = record { outer = outer; sights = [] }
 
 -- the levels with one more binder at the end of the level of this number
 abbrev pub with_sight : List Level → ℕ → Sight → List Level
-with_sight levels number s = option_map_or (λ level. slice_set levels number (record level { sights = level.sights ++ s ∷ [] })) levels (slice_get levels number)
+with_sight levels number s = option_map_or (λ level. slice_set levels number (record level { sights = level.sights ++ s ∷ [] })) (slice_get levels number) levels

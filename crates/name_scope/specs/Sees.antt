@@ -1,5 +1,5 @@
 -- What a use sees under a spelling: every binder of every scope, with its number of scopes outward.
-use Rattle.std.specs.Prelude.{ℕ, suc, zero, ◌==◌, nat_eq, Bool, true, false, ◌&&◌, ◌||◌, not, if◌then◌else◌, List, [], ◌∷◌, ◌++◌, length, map, filter, slice_get, find, codes, Option, Some, None, is_some, option_and_then}
+use Rattle.std.specs.Prelude.{ℕ, suc, zero, ◌+◌, ◌==◌, nat_eq, Bool, true, false, ◌&&◌, ◌||◌, not, if◌then◌else◌, List, [], ◌∷◌, ◌++◌, length, map, filter, slice_get, find, codes, Option, Some, None, is_some, option_and_then}
 use Rattle.std.specs.Option.{option_map_or}
 use Rattle.std.specs.Cmp.Lexicographic.{pointwise}
 use Rattle.sql_token.specs.Names.{folded}
@@ -45,7 +45,7 @@ seen_in spelling depth (level ∷ outer) = seen_at spelling depth level.sights +
 -- the level of this number, the one around it, and so on, of which up to n are listed
 abbrev pub outward : ℕ → List Level → Option ℕ → List Level
 outward zero levels number = []
-outward (suc n) levels number = option_map_or (λ level. level ∷ outward n levels level.outer) [] (option_and_then (slice_get levels) number)
+outward (suc n) levels number = option_map_or (λ level. level ∷ outward n levels level.outer) (option_and_then (slice_get levels) number) []
 
 -- The levels in which a use at the level of this number stands, the nearest first. Each level's outer one has a lower number,
 -- so there are no more than all of them.
@@ -115,7 +115,7 @@ seen_from spelling levels behind = seen_in spelling 0 levels ++ seen_at spelling
 
 -- the type of the object of this rowid
 abbrev pub kind_of : List Row → ℕ → RowKind
-kind_of rows rowid = option_map_or (λ r. r.kind) kind.Table (row_of rows rowid)
+kind_of rows rowid = option_map_or (λ r. r.kind) (row_of rows rowid) kind.Table
 
 -- what a use of a text that has these levels sees under the spelling, among the rows of its schema
 abbrev pub sees : List Row → List Level → Use → List (List ℕ) → List Seen

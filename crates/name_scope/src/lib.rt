@@ -14,7 +14,7 @@ mod refusal;
 mod row;
 mod scope;
 mod seen;
-mod sees;
+mod seeing;
 mod usage;
 
 pub use catalogue::Catalogue;
@@ -28,5 +28,5 @@ pub use rank::{Denoted, is_in_reach, is_nearer, nearest_of};
 pub use refusal::{PlanError, Refusal};
 pub use row::{Row, RowKind};
 pub use scope::Scope;
-pub use sees::sees;
+pub use seeing::sees;
 pub use usage::{Target, Use, UseKind};

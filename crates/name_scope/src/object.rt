@@ -50,7 +50,7 @@ fn has_sources(kind: RowKind) -> bool
 
 /// Whether the row is an index with a text of this table.
 fn is_index_of(table: Option<&Row>, r: &Row) -> bool
-    ensures { result ≡ spec.is_index_of (option_copied table) r.now }
+    ensures { result ≡ spec.is_index_of (option_copied table.entry) r.now }
 {
     match (table, r.kind, &r.sql) {
         (Some(table), RowKind::Index, Some(_)) => same_names(r.table.as_slice(), table.name.as_slice()),
@@ -123,6 +123,23 @@ fn push_one_fixed(
     push_seen(spelling, depth, s, seen)
 }
 
+/// Adds two objects without a row, where they are seen.
+#[tactic(auto, using(crate::proofs::Seen::two_seen))]
+fn push_two_fixed(
+    alloc: Global,
+    spelling: &[Bytes],
+    depth: u32,
+    first: (&[u8], u32),
+    second: (&[u8], u32),
+    seen: &mut Vec<(u32, Sight)>,
+) -> Result<(), AllocError>
+    ensures { OnOk result (seen.new.items ≡ seen.old.items ++ spec.seen_at spelling.now depth (spec.object_sight 0 first.entry.0.now (Identity.Fixed first.entry.1 None) ∷ spec.object_sight 0 second.entry.0.now (Identity.Fixed second.entry.1 None) ∷ [])) }
+{
+    push_one_fixed(alloc, spelling, depth, first.0, first.1, seen)?;
+    push_one_fixed(alloc, spelling, depth, second.0, second.1, seen)?;
+    Ok(())
+}
+
 /// Adds what is seen of the objects without a row.
 fn push_fixed(
     alloc: Global,
@@ -136,12 +153,10 @@ fn push_fixed(
 {
     match kind {
         UseKind::Source if has_sources(own) => {
-            push_one_fixed(alloc, spelling, depth, b"sqlite_schema", 0, seen)?;
-            push_one_fixed(alloc, spelling, depth, b"sqlite_master", 0, seen)
+            push_two_fixed(alloc, spelling, depth, (b"sqlite_schema", 0), (b"sqlite_master", 0), seen)
         }
         UseKind::Function => {
-            push_one_fixed(alloc, spelling, depth, b"json_each", 1, seen)?;
-            push_one_fixed(alloc, spelling, depth, b"json_tree", 2, seen)
+            push_two_fixed(alloc, spelling, depth, (b"json_each", 1), (b"json_tree", 2), seen)
         }
         _ => Ok(()),
     }

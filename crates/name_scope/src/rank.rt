@@ -1,6 +1,6 @@
 //! Which of the binders that a use sees is nearer, and the one that it denotes.
 ghost use Rattle.std.specs.Prelude.{◌≡◌, ◌<◌, ◌↔◌, length, IsTrue};
-ghost use Rattle.name_scope.specs.Rank.{Denotes, IsInReach, IsNearer, StandsBefore};
+ghost use Rattle.name_scope.specs.Rank.{Denotes, IsBehind, IsInReach, IsNearer, StandsBefore};
 ghost use Rattle.name_scope.specs.Found.{IsFound};
 ghost use Rattle.std.specs.Option.{option_copied};
 
@@ -34,7 +34,7 @@ fn stands_before(s: &Sight, t: &Sight) -> bool
 
 /// Whether a binder is at the rank of the target or nearer. A literal has no target, and each binder is in its reach.
 pub fn is_in_reach(target: Option<&(u32, Sight)>, s: &(u32, Sight)) -> bool
-    ensures { IsTrue result ↔ IsInReach (option_copied target) s.now }
+    ensures { IsTrue result ↔ IsInReach (option_copied target.entry) s.now }
 {
     match target {
         Some(target) => !is_nearer(target, s),
@@ -63,9 +63,18 @@ fn is_least(seen: &[(u32, Sight)], place: usize) -> bool
     ensures { IsTrue result ↔ Denotes seen.now place }
 {
     for at in 0..seen.len() {
-        if at != place && !is_nearer(&seen[place], &seen[at]) {
+        if !is_behind(seen, place, at) {
             return false;
         }
     }
     true
+}
+
+/// Whether what stands at the other place, if that is another one, is farther.
+fn is_behind(seen: &[(u32, Sight)], place: usize, at: usize) -> bool
+    requires place { place < length seen.now }
+    requires other { at < length seen.now }
+    ensures { IsTrue result ↔ IsBehind seen.now place at }
+{
+    at == place || is_nearer(&seen[place], &seen[at])
 }

@@ -1,5 +1,5 @@
 //! What a use sees under a spelling.
-ghost use Rattle.std.specs.Prelude.{◌≡◌, ◌++◌, length, slice_get, option_and_then, IfOk, OnOk};
+ghost use Rattle.std.specs.Prelude.{◌≡◌, ◌+◌, ◌++◌, length, slice_get, option_and_then, IfOk, OnOk};
 ghost use Rattle.std.specs.Option.{option_copied};
 ghost use Rattle.name_scope.specs.Catalogue.{HasRow, rows_of, levels_of};
 ghost use Rattle.name_scope.specs.Sees as spec;
@@ -51,17 +51,28 @@ fn push_chain(
 {
     let mut next = Some(number);
     let mut depth: u32 = 0;
-    for _step in 0..levels.len() {
-        match level_at(levels, next) {
-            None => break,
-            Some(level) => {
-                push_sights(spelling, depth, level.sights.as_slice(), seen)?;
-                next = level.outer;
-                depth = depth.checked_add(1).ok_or(AllocError)?;
-            }
-        }
+    let mut left = levels.len();
+    while left > 0 {
+        let Some(level) = level_at(levels, next) else {
+            break;
+        };
+        push_sights(spelling, depth, level.sights.as_slice(), seen)?;
+        next = level.outer;
+        depth = one_deeper(depth)?;
+        left -= 1;
     }
     Ok(depth)
+}
+
+/// One scope more outward. Past 2^32 - 1 memory counts as run out.
+fn one_deeper(depth: u32) -> Result<u32, AllocError>
+    ensures { IfOk result (λ deeper. deeper ≡ depth + 1) }
+{
+    if depth < u32::MAX {
+        Ok(depth + 1)
+    } else {
+        Err(AllocError)
+    }
 }
 
 /// The level of this number, if there is one.
