@@ -1,3 +1,4 @@
 pub mod Below
 pub mod Names
-pub mod Seen
+pub mod Ranks
+pub mod Sights

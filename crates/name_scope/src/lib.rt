@@ -15,6 +15,8 @@ mod row;
 mod scope;
 mod seen;
 mod seeing;
+#[cfg(test)]
+mod tests;
 mod usage;
 
 pub use catalogue::Catalogue;
@@ -24,7 +26,7 @@ pub use identity::Identity;
 pub use level::{Binder, Level, Resolved, Sight};
 pub use literal::may_be_literal;
 pub use path::Path;
-pub use rank::{Denoted, is_in_reach, is_nearer, nearest_of};
+pub use rank::{Denoted, is_in_reach, is_nearer, nearest_of, one_denoted};
 pub use refusal::{PlanError, Refusal};
 pub use row::{Row, RowKind};
 pub use scope::Scope;

@@ -124,7 +124,6 @@ fn push_one_fixed(
 }
 
 /// Adds two objects without a row, where they are seen.
-#[tactic(auto, using(crate::proofs::Seen::two_seen))]
 fn push_two_fixed(
     alloc: Global,
     spelling: &[Bytes],

@@ -1,6 +1,6 @@
 //! Which of the binders that a use sees is nearer, and the one that it denotes.
-ghost use Rattle.std.specs.Prelude.{◌≡◌, ◌<◌, ◌↔◌, length, IsTrue};
-ghost use Rattle.name_scope.specs.Rank.{Denotes, IsBehind, IsInReach, IsNearer, StandsBefore};
+ghost use Rattle.std.specs.Prelude.{◌≡◌, ◌<◌, ◌↔◌, ℕ, List, length, IsTrue};
+ghost use Rattle.name_scope.specs.Rank.{Denotes, IsBehind, IsInReach, IsNearer, Seen, StandsBefore};
 ghost use Rattle.name_scope.specs.Found.{IsFound};
 ghost use Rattle.std.specs.Option.{option_copied};
 
@@ -56,6 +56,11 @@ pub fn nearest_of(seen: &[(u32, Sight)]) -> Denoted
     }
     Denoted::Ambiguous
 }
+
+/// No more than one place of a list is denoted.
+pub fn one_denoted()
+    ensures { (seen : List Seen) (p q : ℕ) → Denotes seen p → Denotes seen q → p ≡ q }
+{}
 
 /// Whether the binder at the place is nearer than each other one.
 fn is_least(seen: &[(u32, Sight)], place: usize) -> bool
