@@ -26,6 +26,7 @@ one_place seen p q a b = by (nat_lt p q) (nat_lt q p) refl refl
         let (x, here, _) = element_at seen p a.there in
         let (y, there, _) = element_at seen q b.there in
         absurd (nearer_once x y (a.nearest q x y (λ same. apart (sym same)) here there) (b.nearest p y x apart there here))
+
     by : (c d : Bool) → nat_lt p q ≡ c → nat_lt q p ≡ d → p ≡ q
     by true d less other = clash (λ same. omega (arith, ltb-true p q less, same))
     by false true other less = clash (λ same. omega (arith, ltb-true q p less, same))

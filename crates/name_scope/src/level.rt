@@ -1,9 +1,7 @@
 //! Levels: what stands at a place.
 ghost use Rattle.std.specs.Prelude.{◌≡◌, IfOk};
 
-use crate::identity;
-use crate::row;
-use crate::{Identity, Use};
+use crate::{Identity, Use, identity, row};
 use alter_bytes::Bytes;
 use sqlite_items::Items;
 use std::alloc::AllocError;

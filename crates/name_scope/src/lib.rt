@@ -13,8 +13,8 @@ mod rank;
 mod refusal;
 mod row;
 mod scope;
-mod seen;
 mod seeing;
+mod seen;
 #[cfg(test)]
 mod tests;
 mod usage;

@@ -53,7 +53,10 @@ fn is_index_of(table: Option<&Row>, r: &Row) -> bool
     ensures { result ≡ spec.is_index_of (option_copied table.entry) r.now }
 {
     match (table, r.kind, &r.sql) {
-        (Some(table), RowKind::Index, Some(_)) => same_names(r.table.as_slice(), table.name.as_slice()),
+        (Some(table), RowKind::Index, Some(_)) => same_names(
+            r.table.as_slice(),
+            table.name.as_slice(),
+        ),
         _ => false,
     }
 }
@@ -152,10 +155,24 @@ fn push_fixed(
 {
     match kind {
         UseKind::Source if has_sources(own) => {
-            push_two_fixed(alloc, spelling, depth, (b"sqlite_schema", 0), (b"sqlite_master", 0), seen)
+            push_two_fixed(
+                alloc,
+                spelling,
+                depth,
+                (b"sqlite_schema", 0),
+                (b"sqlite_master", 0),
+                seen,
+            )
         }
         UseKind::Function => {
-            push_two_fixed(alloc, spelling, depth, (b"json_each", 1), (b"json_tree", 2), seen)
+            push_two_fixed(
+                alloc,
+                spelling,
+                depth,
+                (b"json_each", 1),
+                (b"json_tree", 2),
+                seen,
+            )
         }
         _ => Ok(()),
     }

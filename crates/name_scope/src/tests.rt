@@ -4,7 +4,13 @@ use sqlite_items::Items;
 use std::alloc::{AllocError, Global};
 use std::test::Fail;
 
-fn sight(alloc: Global, name: &[u8], class: u32, place: u32, source: Option<u32>) -> Result<Sight, AllocError> {
+fn sight(
+    alloc: Global,
+    name: &[u8],
+    class: u32,
+    place: u32,
+    source: Option<u32>,
+) -> Result<Sight, AllocError> {
     let source = match source {
         Some(step) => Some(Identity::Source(3, Path::from_slice(alloc, &[step])?)),
         None => None,
@@ -23,7 +29,13 @@ fn sight(alloc: Global, name: &[u8], class: u32, place: u32, source: Option<u32>
     })
 }
 
-fn row(alloc: Global, rowid: u32, kind: RowKind, name: &[u8], table: &[u8]) -> Result<Row, AllocError> {
+fn row(
+    alloc: Global,
+    rowid: u32,
+    kind: RowKind,
+    name: &[u8],
+    table: &[u8],
+) -> Result<Row, AllocError> {
     Ok(Row {
         rowid,
         kind,
@@ -96,10 +108,27 @@ fn a_use_sees_every_scope_and_the_objects(rt: HostRuntime) -> Result<(), Fail> {
     let seen = sees(rt.alloc(), &cat, &usage(UseKind::Source, inner), &spelling)?;
     assert_eq!(rt; seen.len(), 3);
     assert_eq!(rt; seen.as_slice()[1].0, 1);
-    assert!(rt; seen.as_slice()[2].1.binder.what.is_same(&Identity::Object(1)));
-    let seen = sees(rt.alloc(), &cat, &usage(UseKind::Index(1), outer), &spelling)?;
+    assert!(rt;
+        seen.as_slice()[2]
+            .1
+            .binder
+            .what
+            .is_same(&Identity::Object(1))
+    );
+    let seen = sees(
+        rt.alloc(),
+        &cat,
+        &usage(UseKind::Index(1), outer),
+        &spelling,
+    )?;
     assert_eq!(rt; seen.len(), 2);
-    assert!(rt; seen.as_slice()[1].1.binder.what.is_same(&Identity::Object(2)));
+    assert!(rt;
+        seen.as_slice()[1]
+            .1
+            .binder
+            .what
+            .is_same(&Identity::Object(2))
+    );
     Ok(())
 }
 
@@ -112,7 +141,10 @@ fn a_repeated_name_is_the_first(rt: HostRuntime) -> Result<(), Fail> {
         columns.push(sight(rt.alloc(), name, 1, 0, None)?.binder)?;
     }
     cat.set_columns(7, columns)?;
-    assert_eq!(rt; cat.ordinal(7, &Bytes::from_slice(rt.alloc(), b"b")?), Some(1));
+    assert_eq!(rt;
+        cat.ordinal(7, &Bytes::from_slice(rt.alloc(), b"b")?),
+        Some(1)
+    );
     assert_eq!(rt; cat.ordinal(7, &Bytes::from_slice(rt.alloc(), b"c")?), None);
     assert_eq!(rt; cat.reads(), 0);
     cat.set_tree(7, 1)?;

@@ -10,6 +10,6 @@ loop-place-preserved c =
 
 pub returns : goal.returns
 returns c = (
-    λ none. both_ways _ c.if-is_empty.false (c.is_empty.ensures ∙ ap (λ l. nat_eq (length l) 0) none),
-    λ place least. c.loop-place.invariant place (omega (arith, least.there, c.loop-place-test.false)) least,
-  )
+  λ none. both_ways _ c.if-is_empty.false (c.is_empty.ensures ∙ ap (λ l. nat_eq (length l) 0) none),
+  λ place least. c.loop-place.invariant place (omega (arith, least.there, c.loop-place-test.false)) least,
+)
