@@ -1,5 +1,5 @@
 -- The levels of one text, numbered in the order in which they are opened.
-use Rattle.std.specs.Prelude.{ℕ, ◌<◌, List, [], ◌∷◌, ◌++◌, length, slice_get, slice_set, Option, Some, None, IfSome}
+use Rattle.std.specs.Prelude.{ℕ, ◌<◌, List, [], ◌∷◌, ◌++◌, length, slice_get, slice_set, Option, Some, None}
 use Rattle.std.specs.Option.{option_map_or}
 use Rattle.name_scope.specs.declared.level.Level.{Level}
 use Rattle.name_scope.specs.declared.level.Sight.{Sight}

@@ -1,11 +1,10 @@
 -- What a use sees under a spelling: every binder of every scope, with its number of scopes outward.
-use Rattle.std.specs.Prelude.{ℕ, suc, zero, ◌+◌, ◌==◌, nat_eq, Bool, true, false, ◌&&◌, ◌||◌, not, if◌then◌else◌, List, [], ◌∷◌, ◌++◌, length, map, filter, slice_get, find, codes, Option, Some, None, is_some, option_and_then}
+use Rattle.std.specs.Prelude.{ℕ, suc, zero, ◌+◌, ◌==◌, nat_eq, Bool, true, false, ◌&&◌, not, if◌then◌else◌, List, [], ◌∷◌, ◌++◌, length, map, filter, slice_get, find, codes, Option, Some, None, is_some, option_and_then}
 use Rattle.std.specs.Option.{option_map_or}
 use Rattle.std.specs.Cmp.Lexicographic.{pointwise}
 use Rattle.sql_token.specs.Names.{folded}
 use Rattle.name_scope.specs.declared.identity.Identity.{Identity}
 use Rattle.name_scope.specs.declared.identity.Identity.TheVariants.{Object, Fixed}
-use Rattle.name_scope.specs.declared.level.Binder.{Binder}
 use Rattle.name_scope.specs.declared.level.Level.{Level}
 use Rattle.name_scope.specs.declared.level.Sight.{Sight}
 use Rattle.name_scope.specs.declared.row.Row.{Row}
@@ -13,7 +12,7 @@ use Rattle.name_scope.specs.declared.row.RowKind.{RowKind}
 use Rattle.name_scope.specs.declared.row.RowKind.TheVariants as kind
 use Rattle.name_scope.specs.declared.usage.Use.{Use}
 use Rattle.name_scope.specs.declared.usage.UseKind.{UseKind}
-use Rattle.name_scope.specs.declared.usage.UseKind.TheVariants.{Sighted, Source, Function, Owner, Index, Parent}
+use Rattle.name_scope.specs.declared.usage.UseKind.TheVariants.{Source, Function, Owner, Index, Parent}
 use Rattle.name_scope.specs.Rank.{Seen}
 
 -- two names are equal, where ASCII letters of either case are

@@ -1,6 +1,6 @@
-use Rattle.std.proofs.Common.{ℕ, ◌<◌, ◌+◌, ◌≡◌, length, refl, sym, subst, arith}
+use Rattle.std.proofs.Common.{refl, arith}
 use Rattle.std.proofs.lemmas.Option.{slice_get_within}
-use Rattle.name_scope.specs.Rank.{Denotes, IsBehind}
+use Rattle.name_scope.specs.Rank.{IsBehind}
 use Rattle.name_scope.proofs.Below.{up_to}
 use Rattle.name_scope.proofs.rank.is_least.Goals as goal
 
