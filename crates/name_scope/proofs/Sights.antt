@@ -49,9 +49,11 @@ source_sights own kind is has =
     sym (ap (fixed_sights own) is ∙ by_test)
 
 -- the two table functions are what a function sees
-pub function_sights : (own : RowKind) (kind : UseKind) → kind ≡ Function
+pub function_sights : (own : RowKind) (kind : UseKind) → kind ≡ Function → has_sources own ≡ true
     → object_sight 0 (codes "json_each") (Fixed 1 None) ∷ object_sight 0 (codes "json_tree") (Fixed 2 None) ∷ [] ≡ fixed_sights own kind
-function_sights own kind is = sym (ap (fixed_sights own) is)
+function_sights own kind is has =
+    let by_test = ap (λ b. if b then object_sight 0 (codes "json_each") (Fixed 1 None) ∷ object_sight 0 (codes "json_tree") (Fixed 2 None) ∷ [] else []) has in
+    sym (ap (fixed_sights own) is ∙ by_test)
 
 -- a first binder is added, and then a second
 pub both_added : (spelling : List (List ℕ)) (depth : ℕ) (s t : Sight) (old mid new : List Seen)

@@ -72,7 +72,7 @@ is_table_or_view kind.Table = true
 is_table_or_view kind.View = true
 is_table_or_view _ = false
 
--- a text of this type has sources: in those of tables and indexes only WITH names are seen
+-- a text of this type has sources that are objects: in those of tables and indexes only WITH names are seen
 abbrev pub has_sources : RowKind → Bool
 has_sources kind.View = true
 has_sources kind.Trigger = true
@@ -95,10 +95,10 @@ sees_object rows own _ r = false
 abbrev pub object_sight : ℕ → List ℕ → Identity → Sight
 object_sight row name what = record { class = 0; place = 0; qualifier = Some (codes "main"); qualified_only = false; source = None; binder = record { row = row; name = Some name; what = what } }
 
--- the schema table has two names
+-- the objects without a row: the schema table, which has two names, and the two table functions
 abbrev pub fixed_sights : RowKind → UseKind → List Sight
 fixed_sights own Source = if has_sources own then object_sight 0 (codes "sqlite_schema") (Fixed 0 None) ∷ object_sight 0 (codes "sqlite_master") (Fixed 0 None) ∷ [] else []
-fixed_sights own Function = object_sight 0 (codes "json_each") (Fixed 1 None) ∷ object_sight 0 (codes "json_tree") (Fixed 2 None) ∷ []
+fixed_sights own Function = if has_sources own then object_sight 0 (codes "json_each") (Fixed 1 None) ∷ object_sight 0 (codes "json_tree") (Fixed 2 None) ∷ [] else []
 fixed_sights own _ = []
 
 abbrev pub sight_of_row : Row → Sight

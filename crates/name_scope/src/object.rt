@@ -164,7 +164,7 @@ fn push_fixed(
                 seen,
             )
         }
-        UseKind::Function => {
+        UseKind::Function if has_sources(own) => {
             push_two_fixed(
                 alloc,
                 spelling,

@@ -11,4 +11,4 @@ returns-in-Source c =
 pub returns-in-Function : goal.returns-in-Function
 returns-in-Function c =
     subst (λ sights. OnOk c.push_two_fixed-in-Function.result (c.push_two_fixed-in-Function.new.seen.items ≡ c.args.seen.now.items ++ seen_at c.args.spelling.now c.args.depth sights))
-    (function_sights c.args.own c.args.kind c.in-Function.is) c.push_two_fixed-in-Function.ensures
+    (function_sights c.args.own c.args.kind c.in-Function.is (sym c.has_sources-in-Function-1.ensures ∙ c.if-has_sources-2.true)) c.push_two_fixed-in-Function.ensures
