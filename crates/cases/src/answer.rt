@@ -2,7 +2,9 @@
 
 use crate::field::Escaped;
 use sql_token::{Token, TokenKind};
+use std::cmp::Ordering;
 use std::fmt;
+use value_order::Affinity;
 
 /// What a call gives, and how the line of the answer says it.
 #[derive(Drop)]
@@ -25,6 +27,12 @@ pub enum Answer {
     Depth(usize),
     /// No tree spells all tokens of the text.
     Syntax,
+    /// The affinity of a type text.
+    Affinity(Affinity),
+    /// How the first value stands to the second.
+    Order(Ordering),
+    /// The answer depends on what number a real is.
+    NeedsReal,
     /// The line is no case.
     NoSuchCase,
 }
@@ -42,6 +50,9 @@ impl fmt::Display for Answer {
             Answer::Differs => f.write_str("differs"),
             Answer::Depth(at) => write!(f, "depth {at}"),
             Answer::Syntax => f.write_str("syntax"),
+            Answer::Affinity(affinity) => f.write_str(name_of_affinity(*affinity)),
+            Answer::Order(ordering) => f.write_str(name_of_order(*ordering)),
+            Answer::NeedsReal => f.write_str("needs-real"),
             Answer::NoSuchCase => f.write_str("no such case"),
         }
     }
@@ -68,5 +79,23 @@ fn name_of_kind(kind: TokenKind) -> &'static str {
         TokenKind::Hex => "Hex",
         TokenKind::Float => "Float",
         TokenKind::Op => "Op",
+    }
+}
+
+fn name_of_affinity(affinity: Affinity) -> &'static str {
+    match affinity {
+        Affinity::Blob => "blob",
+        Affinity::Text => "text",
+        Affinity::Numeric => "numeric",
+        Affinity::Integer => "integer",
+        Affinity::Real => "real",
+    }
+}
+
+fn name_of_order(ordering: Ordering) -> &'static str {
+    match ordering {
+        Ordering::Less => "less",
+        Ordering::Equal => "equal",
+        Ordering::Greater => "greater",
     }
 }
