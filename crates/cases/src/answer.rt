@@ -1,6 +1,7 @@
 //! What is answered to a case.
 
-use crate::field::Escaped;
+use crate::field::{Escaped, Hex};
+use record_codec::Value;
 use sql_token::{Token, TokenKind};
 use std::cmp::Ordering;
 use std::fmt;
@@ -29,6 +30,8 @@ pub enum Answer {
     Syntax,
     /// The affinity of a type text.
     Affinity(Affinity),
+    /// A value.
+    Value(Value),
     /// How the first value stands to the second.
     Order(Ordering),
     /// The answer depends on what number a real is.
@@ -51,6 +54,7 @@ impl fmt::Display for Answer {
             Answer::Depth(at) => write!(f, "depth {at}"),
             Answer::Syntax => f.write_str("syntax"),
             Answer::Affinity(affinity) => f.write_str(name_of_affinity(*affinity)),
+            Answer::Value(value) => write_value(f, value),
             Answer::Order(ordering) => f.write_str(name_of_order(*ordering)),
             Answer::NeedsReal => f.write_str("needs-real"),
             Answer::NoSuchCase => f.write_str("no such case"),
@@ -79,6 +83,17 @@ fn name_of_kind(kind: TokenKind) -> &'static str {
         TokenKind::Hex => "Hex",
         TokenKind::Float => "Float",
         TokenKind::Op => "Op",
+    }
+}
+
+/// A value, as a field of a case writes it.
+fn write_value<W: fmt::Write>(f: &mut fmt::Formatter<W>, value: &Value) -> fmt::Result {
+    match value {
+        Value::Null => f.write_str("null"),
+        Value::Int(number) => write!(f, "{number}"),
+        Value::Real(bytes) => write!(f, "real:{}", Hex(bytes)),
+        Value::Text(text) => write!(f, "'{}'", Escaped(text.as_slice())),
+        Value::Blob(bytes) => write!(f, "x'{}'", Hex(bytes.as_slice())),
     }
 }
 

@@ -6,7 +6,7 @@ ghost use Rattle.sql_token.specs.Token.{AreTokens};
 
 use crate::answer::Answer;
 use crate::field::{number, unescaped};
-use crate::values::{affinity, order};
+use crate::values::{affinity, converted, order};
 use ddl_parse::{parse_column, parse_index, parse_table, parse_view};
 use query_parse::{ParseError, parse_expr, parse_select};
 use sql_token::{Token, TokenError, TokenKind, name_of, tokens};
@@ -27,6 +27,7 @@ pub fn answer_to(alloc: Global, line: &[u8]) -> Result<Answer, AllocError> {
     }
     match (call, second, third) {
         (b"affinity", None, None) => affinity(alloc, first),
+        (b"apply", Some(to), Some(before)) => converted(alloc, first, to, before),
         (b"compare", Some(a), Some(b)) => order(alloc, first, a, b),
         (call, place, None) => answer_of_text(alloc, call, first, place),
         _ => Ok(Answer::NoSuchCase),

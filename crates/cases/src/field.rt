@@ -77,3 +77,16 @@ impl fmt::Display for Escaped<'_> {
         Ok(())
     }
 }
+
+/// Bytes, written as two hexadecimal digits each.
+#[derive(Clone, Copy)]
+pub struct Hex<'a>(pub &'a [u8]);
+
+impl fmt::Display for Hex<'_> {
+    fn fmt<W: fmt::Write>(&self, f: &mut fmt::Formatter<W>) -> fmt::Result {
+        for byte in self.0 {
+            write!(f, "{byte:02x}")?;
+        }
+        Ok(())
+    }
+}

@@ -5,13 +5,44 @@ use crate::field::{byte_of, unescaped};
 use alter_bytes::Bytes;
 use record_codec::Value;
 use std::alloc::{AllocError, Global};
-use value_order::{Collation, affinity_of, collation_of, compare};
+use value_order::{Affinity, ApplyError, Collation, affinity_of, apply, collation_of, compare};
 
 /// What `affinity_of` gives.
 pub fn affinity(alloc: Global, type_text: &[u8]) -> Result<Answer, AllocError> {
     match unescaped(alloc, type_text)? {
         Some(text) => Ok(Answer::Affinity(affinity_of(text.as_slice()))),
         None => Ok(Answer::NoSuchCase),
+    }
+}
+
+/// What `apply` gives.
+pub fn converted(
+    alloc: Global,
+    from: &[u8],
+    to: &[u8],
+    before: &[u8],
+) -> Result<Answer, AllocError> {
+    let (Some(from), Some(to)) = (affinity_named(from), affinity_named(to)) else {
+        return Ok(Answer::NoSuchCase);
+    };
+    let Some(before) = value(alloc, before)? else {
+        return Ok(Answer::NoSuchCase);
+    };
+    match apply(alloc, from, to, before) {
+        Ok(after) => Ok(Answer::Value(after)),
+        Err(ApplyError::NeedsReal) => Ok(Answer::NeedsReal),
+        Err(ApplyError::Memory(fault)) => Err(fault),
+    }
+}
+
+fn affinity_named(name: &[u8]) -> Option<Affinity> {
+    match name {
+        b"blob" => Some(Affinity::Blob),
+        b"text" => Some(Affinity::Text),
+        b"numeric" => Some(Affinity::Numeric),
+        b"integer" => Some(Affinity::Integer),
+        b"real" => Some(Affinity::Real),
+        _ => None,
     }
 }
 
