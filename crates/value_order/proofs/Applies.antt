@@ -1,5 +1,5 @@
 -- What the result of a conversion says, clause by clause.
-use Rattle.std.proofs.Common.{◌≡◌, ◌↔◌, refl, sym, subst, ◌∙◌}
+use Rattle.std.proofs.Common.{◌↔◌, refl, sym, ◌∙◌}
 use Rattle.std.specs.Prelude.{IfErr, IfOk, IsErrOf, Ok, Err, Result}
 use Rattle.record_codec.specs.declared.value.Value.{Value}
 use Rattle.value_order.specs.declared.affinity.Affinity.{Affinity}

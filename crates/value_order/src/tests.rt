@@ -57,7 +57,10 @@ fn texts_that_are_integers(rt: HostRuntime) -> Result<(), Fail> {
             text_to(rt.alloc(), Affinity::Numeric, text)?,
             Outcome::Integer(number)
         );
-        assert_eq!(rt; text_to(rt.alloc(), Affinity::Real, text)?, Outcome::NeedsReal);
+        assert_eq!(rt;
+            text_to(rt.alloc(), Affinity::Real, text)?,
+            Outcome::NeedsReal
+        );
         assert_eq!(rt;
             text_to(rt.alloc(), Affinity::Text, text)?,
             Outcome::Text(text.len())
@@ -88,7 +91,10 @@ fn texts_that_are_other_numbers(rt: HostRuntime) -> Result<(), Fail> {
             text_to(rt.alloc(), Affinity::Numeric, text)?,
             Outcome::NeedsReal
         );
-        assert_eq!(rt; text_to(rt.alloc(), Affinity::Real, text)?, Outcome::NeedsReal);
+        assert_eq!(rt;
+            text_to(rt.alloc(), Affinity::Real, text)?,
+            Outcome::NeedsReal
+        );
     }
     Ok(())
 }
@@ -160,9 +166,15 @@ fn integers_and_reals(rt: HostRuntime) -> Result<(), Fail> {
         outcome_of(apply(alloc, Blob, Integer, Value::Real([0; 8]))),
         Outcome::NeedsReal
     );
-    assert_eq!(rt; outcome_of(apply(alloc, Real, Integer, Value::Null)), Outcome::Null);
+    assert_eq!(rt;
+        outcome_of(apply(alloc, Real, Integer, Value::Null)),
+        Outcome::Null
+    );
     let blob = Value::Blob(Bytes::from_slice(alloc, b"12")?);
-    assert_eq!(rt; outcome_of(apply(alloc, Blob, Integer, blob)), Outcome::Blob);
+    assert_eq!(rt;
+        outcome_of(apply(alloc, Blob, Integer, blob)),
+        Outcome::Blob
+    );
     Ok(())
 }
 

@@ -1,4 +1,4 @@
-use Rattle.std.proofs.Common.{subst, sym, ap}
+use Rattle.std.proofs.Common.{subst, sym}
 use Rattle.value_order.specs.Conversion.{AsksReal}
 use Rattle.value_order.specs.Number.{IsNumber}
 use Rattle.record_codec.specs.declared.value.Value.TheVariants.{Text}

@@ -1,4 +1,4 @@
-use Rattle.std.proofs.Common.{◌≡◌, ◌-◌, sym, ap, ◌∙◌, take, length}
+use Rattle.std.proofs.Common.{◌-◌, ap, ◌∙◌, take, length}
 use Rattle.value_order.specs.Number.{is_digit}
 use Rattle.value_order.proofs.Runs.{front_by_length, past_shorter}
 use Rattle.value_order.proofs.number.digits.Goals as goal

@@ -1,4 +1,4 @@
-use Rattle.std.proofs.Common.{◌≡◌, ◌∙◌, sym, ap, ap₂, true, false, subst, w64, of_z, to_z, to_z-of_z}
+use Rattle.std.proofs.Common.{◌≡◌, ◌∙◌, sym, ap, ap₂, true, false, subst, to_z-of_z}
 use Rattle.std.proofs.lemmas.Bool.{true≢false}
 use Rattle.value_order.specs.Conversion.{IsFitting}
 use Rattle.value_order.specs.Number.{Fits, IsInteger, begins_minus, is_blank, is_digit, signed_number}

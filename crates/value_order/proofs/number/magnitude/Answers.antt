@@ -1,5 +1,4 @@
-use Rattle.std.proofs.Common.{◌≡◌, ◌+◌, ◌*◌, ◌-◌, ◌<◌, subst, sym, ap, get_or}
-use Rattle.value_order.specs.Number.{number_after}
+use Rattle.std.proofs.Common.{◌+◌, ◌*◌, ◌<◌, subst, sym}
 use Rattle.value_order.proofs.Runs.{too_large}
 use Rattle.value_order.proofs.number.magnitude.Goals as goal
 
