@@ -1,5 +1,5 @@
 -- What a use sees under a spelling: every binder of every scope, with its number of scopes outward.
-use Rattle.std.specs.Prelude.{ℕ, suc, zero, ◌+◌, ◌==◌, nat_eq, Bool, true, false, ◌&&◌, not, if◌then◌else◌, List, [], ◌∷◌, ◌++◌, length, map, filter, slice_get, find, codes, Option, Some, None, is_some, option_and_then}
+use Rattle.std.specs.Prelude.{ℕ, suc, zero, ◌+◌, ◌==◌, nat_eq, Bool, true, false, ◌&&◌, ◌||◌, not, if◌then◌else◌, List, [], ◌∷◌, ◌++◌, length, map, filter, slice_get, find, codes, Option, Some, None, is_some, option_and_then}
 use Rattle.std.specs.Option.{option_map_or}
 use Rattle.std.specs.Cmp.Lexicographic.{pointwise}
 use Rattle.sql_token.specs.Names.{folded}
@@ -72,6 +72,14 @@ is_table_or_view kind.Table = true
 is_table_or_view kind.View = true
 is_table_or_view _ = false
 
+-- a virtual table is a row of type table whose root is 0 or NULL
+abbrev pub is_virtual : Row → Bool
+is_virtual r = is_table r.kind && option_map_or (λ root. root == 0) r.root true
+
+-- A source or an owner may be of these: no use sees a virtual table but a parent's name.
+abbrev pub may_own : Row → Bool
+may_own r = is_table_or_view r.kind && not (is_virtual r)
+
 -- a text of this type has sources that are objects: in those of tables and indexes only WITH names are seen
 abbrev pub has_sources : RowKind → Bool
 has_sources kind.View = true
@@ -85,8 +93,8 @@ is_index_of (Some table) r = is_index r.kind && (is_some r.sql && same_names r.t
 
 -- The objects that a use of the kind in the text of an object of this type may denote.
 abbrev pub sees_object : List Row → RowKind → UseKind → Row → Bool
-sees_object rows own Source r = has_sources own && is_table_or_view r.kind
-sees_object rows own Owner r = if is_trigger own then is_table_or_view r.kind else is_table r.kind
+sees_object rows own Source r = has_sources own && may_own r
+sees_object rows own Owner r = may_own r && (is_trigger own || is_table r.kind)
 sees_object rows own (Index table) r = is_index_of (row_of rows table) r
 sees_object rows own Parent r = is_table r.kind
 sees_object rows own _ r = false

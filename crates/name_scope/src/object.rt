@@ -38,6 +38,29 @@ fn is_table(kind: RowKind) -> bool
     }
 }
 
+fn is_trigger(kind: RowKind) -> bool
+    ensures { result ≡ spec.is_trigger kind }
+{
+    match kind {
+        RowKind::Trigger => true,
+        RowKind::Table | RowKind::Index | RowKind::View => false,
+    }
+}
+
+/// Whether the row is a virtual table.
+fn is_virtual(r: &Row) -> bool
+    ensures { result ≡ spec.is_virtual r.now }
+{
+    is_table(r.kind) && matches!(r.root, None | Some(0))
+}
+
+/// Whether a source or an owner may be the object of the row.
+fn may_own(r: &Row) -> bool
+    ensures { result ≡ spec.may_own r.now }
+{
+    is_table_or_view(r.kind) && !is_virtual(r)
+}
+
 /// Whether sources in a text of this type see objects.
 fn has_sources(kind: RowKind) -> bool
     ensures { result ≡ spec.has_sources kind }
@@ -66,11 +89,8 @@ fn sees_object(rows: &[Row], own: RowKind, kind: UseKind, r: &Row) -> bool
     ensures { result ≡ spec.sees_object rows.now own kind r.now }
 {
     match kind {
-        UseKind::Source => has_sources(own) && is_table_or_view(r.kind),
-        UseKind::Owner => match own {
-            RowKind::Trigger => is_table_or_view(r.kind),
-            RowKind::Table | RowKind::Index | RowKind::View => is_table(r.kind),
-        },
+        UseKind::Source => has_sources(own) && may_own(r),
+        UseKind::Owner => may_own(r) && (is_trigger(own) || is_table(r.kind)),
         UseKind::Index(table) => is_index_of(row_of(rows, table), r),
         UseKind::Parent => is_table(r.kind),
         UseKind::Sighted | UseKind::Function => false,

@@ -41,7 +41,7 @@ fn row(
         kind,
         name: Bytes::from_slice(alloc, name)?,
         table: Bytes::from_slice(alloc, table)?,
-        root: None,
+        root: Some(2),
         sql: Some(Bytes::from_slice(alloc, b"CREATE ..")?),
     })
 }
