@@ -13,14 +13,14 @@ use Rattle.plain_schema.specs.Image.{Image}
 use Rattle.alter_session.specs.declared.open_error.OpenError.{OpenError}
 use Rattle.alter_session.specs.declared.open_error.OpenError.TheVariants as errors
 use Rattle.alter_session.specs.declared.session.Session.{Session}
-use Rattle.alter_session.specs.Opening.{HasOpenCauses, IsOpenedFrom, IsUnopened, KeepsBytes}
+use Rattle.alter_session.specs.Opening.{HasOpenCauses, IsOpenedFrom, IsUnopened, KeepsBytes, Nothing}
 use Rattle.alter_session.specs.Serves.{Refuses, Serves}
 use Rattle.alter_session.specs.Session.{Holds, disk_of}
 use Rattle.alter_cli.specs.declared.file_code.FileCode.{FileCode}
 use Rattle.alter_cli.specs.declared.file_code.FileCode.TheVariants.{SuperJournal, JournalTooLarge, ShortJournal, Database, Unbuilt}
 use Rattle.alter_cli.specs.First.{error_of, first_rules}
 use Rattle.alter_cli.specs.Left.{Each, EachCrash, left_on}
-use Rattle.alter_cli.specs.Opened.{Nothing, OpensQuietly}
+use Rattle.alter_cli.specs.Opened.{OpensQuietly}
 use Rattle.alter_cli.specs.Outcome.{IsAsBefore}
 use Rattle.alter_cli.specs.StopOf.{stop_of_error}
 use Rattle.alter_cli.specs.Stops.{IsLeftAlike, IsRefusedSo, NoSession, OpensOf}

@@ -2,25 +2,21 @@
 use Rattle.std.specs.Prelude.{◌≡◌, ◌≤◌, true, is_some, Result, Ok, Err}
 use Rattle.alter_disk.specs.declared.disk.Disk.{Ghosts}
 use Rattle.alter_disk.specs.Crash.{NoMore}
-use Rattle.alter_disk.specs.Files.{Files}
 use Rattle.alter_disk.specs.Moments.{Leaves}
 use Rattle.alter_disk.specs.Uses.{OnlyOpens}
 use Rattle.alter_session.specs.declared.session.Session.{Session}
+use Rattle.alter_session.specs.Opening.{Nothing}
 use Rattle.alter_session.specs.Session.{disk_of}
 use Rattle.alter_cli.specs.declared.halted.Halted.{Halted}
 use Rattle.alter_cli.specs.declared.run.Turn.{Turn}
 use Rattle.alter_cli.specs.declared.stop.Stop.{Stop}
 use Rattle.alter_cli.specs.declared.stop.Stop.TheVariants.{Memory, Unreadable}
 
--- no files at all
-abbrev pub Nothing : Files → Type 0
-Nothing c = ⊥
-
--- why the disk was not opened
-abbrev pub IsUnopened : Type 0 → Stop → Type 0
-IsUnopened Read Unreadable = Read
-IsUnopened Read Memory = Unit {0}
-IsUnopened Read stop = ⊥
+-- why a call stopped that did not open the disk
+abbrev pub IsOpenStop : Type 0 → Stop → Type 0
+IsOpenStop Read Unreadable = Read
+IsOpenStop Read Memory = Unit {0}
+IsOpenStop Read stop = ⊥
 
 -- an opening of the disk changed no byte, and a crash leaves no more than before
 pub record OpensQuietly {D : Type 0} (disk : Ghosts D) (old new : D) : Type 0 where

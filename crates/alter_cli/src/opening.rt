@@ -11,7 +11,7 @@ ghost use Rattle.alter_session.specs.Session.{Holds, IsReady, disk_of};
 ghost use Rattle.alter_cli.specs.Counted.{HasDiskCauses, or_stop};
 ghost use Rattle.alter_cli.specs.First.{first_rules};
 ghost use Rattle.alter_cli.specs.Left.{Each, left_on};
-ghost use Rattle.alter_cli.specs.Opened.{IsUnopened, OpensQuietly, StaysOpen, disk_open};
+ghost use Rattle.alter_cli.specs.Opened.{IsOpenStop, OpensQuietly, StaysOpen, disk_open};
 ghost use Rattle.alter_cli.specs.StopOf.{stop_of_error, stop_of_way};
 ghost use Rattle.alter_cli.specs.Stops.{NoSession, OpensOf};
 
@@ -52,7 +52,7 @@ fn open<D: Disk>(disk: &mut D, name: &str) -> Result<(), Stop>
     requires first { D.called disk.old ≡ false }
     requires name { IfSome (D.label disk.old) (λ known. name.now ≡ known) }
     ensures opens { OpensQuietly D.Disk disk.old disk.new }
-    ensures stop { IfErr result (IsUnopened (ReadFailed D.Disk disk.old disk.new)) }
+    ensures stop { IfErr result (IsOpenStop (ReadFailed D.Disk disk.old disk.new)) }
     ensures cause { HasCauseOf Stop.Unreadable (D.read_faults disk.old) (D.read_faults disk.new) result }
 {
     match disk.open(name) {

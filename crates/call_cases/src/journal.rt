@@ -34,7 +34,8 @@ fn push_record(number: u32, page: &[u8], off: u32, bytes: &mut Vec<u8>) -> Resul
 }
 
 /// The journal of this kind beside a database with pages of this size: `torn` has page 2, and page 1 with a wrong
-/// sum; `headed` has no record; `super` ends as one with a super-journal does; `short` lacks page 3.
+/// sum; `headed` has no record; `super` ends as one with a super-journal does; `short` lacks page 3; `huge` is of a database
+/// of more pages than the program takes.
 pub fn journal(alloc: Global, kind: &str, db: &[u8], page: usize) -> Result<Vec<u8>, AllocError> {
     let first = db.get(..page).unwrap_or(&[]);
     let second = db.get(page..page.saturating_mul(2)).unwrap_or(&[]);
@@ -52,6 +53,10 @@ pub fn journal(alloc: Global, kind: &str, db: &[u8], page: usize) -> Result<Vec<
         Ok(bytes)
     } else if kind == "short" {
         let mut bytes = header(alloc, 1, 3, page)?;
+        push_record(1, first, 0, &mut bytes)?;
+        Ok(bytes)
+    } else if kind == "huge" {
+        let mut bytes = header(alloc, 1, 262_145, page)?;
         push_record(1, first, 0, &mut bytes)?;
         Ok(bytes)
     } else {
