@@ -1,4 +1,5 @@
 pub mod Answers
 pub mod Node
 pub mod Nodes
+pub mod Tree
 pub mod Walk

@@ -27,13 +27,13 @@ pub record IsNode (nodes : Nodes) (n : ℕ) (bytes : List ℕ) : Type 0 where
   pub next : nodes.next n ≡ big_number 4 bytes
 
 -- the nodes of an image
-pub record AreNodesOf (usable : ℕ) (image : List (List ℕ)) (nodes : Nodes) : Type 0 where
+pub record AreNodesOf (size : ℕ) (image : List (List ℕ)) (nodes : Nodes) : Type 0 where
   pub count : nodes.count ≡ length image
-  pub usable : nodes.usable ≡ usable
+  pub usable : nodes.usable ≡ size
   pub pages : (n : ℕ) (bytes : List ℕ) → 1 ≤ n → slice_get image (n - 1) ≡ Some bytes → IsNode nodes n bytes
 
 -- the nodes of a file, as far as its pages were read
 pub record HasNodes {D : Type 0} (nodes : Nodes) (pages : Pages D) : Type 0 where
   pub count : nodes.count ≡ (shape_of pages).count
   pub usable : nodes.usable ≡ (shape_of pages).usable
-  pub pages : (n : ℕ) (bytes : List ℕ) → shown pages n ≡ Some bytes → IsNode nodes n bytes
+  pub read : (n : ℕ) (bytes : List ℕ) → shown pages n ≡ Some bytes → IsNode nodes n bytes
