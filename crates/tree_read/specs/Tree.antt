@@ -8,22 +8,18 @@ use Rattle.page_cells.specs.declared.cell.PageCells.{PageCells}
 use Rattle.tree_read.specs.declared.place.Limits.{Limits}
 use Rattle.tree_read.specs.declared.place.Place.{Place}
 use Rattle.tree_read.specs.Node.{may_stand}
-use Rattle.tree_read.specs.Nodes.{Nodes, is_page}
-use Rattle.tree_read.specs.Walk.{between, is_table_at, most_levels, no_limits, overflow_pages}
+use Rattle.tree_read.specs.Nodes.{Nodes}
+use Rattle.tree_read.specs.Walk.{between, is_next, most_levels, no_limits, overflow_pages}
 
--- the pages are linked one to the next, and the last one to none
-abbrev pub AreLinked : Nodes → ℕ → List ℕ → Type 0
-AreLinked nodes page [] = page ≡ 0
-AreLinked nodes page (link ∷ links) = (link ≡ page) × IsTrue (is_page nodes.count page) × AreLinked nodes (nodes.next page) links
+-- so many overflow pages from this one on: each is linked to the next, and the last one to none
+abbrev pub IsChain : Nodes → ℕ → ℕ → List ℕ → Type 0
+IsChain nodes zero page links = links ≡ []
+IsChain nodes (suc left) page links =
+    (rest : List ℕ) × (links ≡ page ∷ rest) × IsTrue (is_next nodes.count left (nodes.next page)) × IsChain nodes left (nodes.next page) rest
 
--- the overflow pages of a payload that has its first there: as many as it needs
-pub record IsChain (nodes : Nodes) (kind : Kind) (payload first : ℕ) (links : List ℕ) : Type 0 where
-  pub count : length links ≡ overflow_pages kind nodes.usable payload
-  pub linked : AreLinked nodes first links
-
--- the overflow pages of a cell
+-- the overflow pages of a cell: as many as its payload needs
 abbrev pub HasChain : Nodes → Kind → Cell → List ℕ → Type 0
-HasChain nodes kind cell links = elim cell.overflow [ None ↦ links ≡ [] | Some first ↦ IsChain nodes kind cell.payload first links ]
+HasChain nodes kind cell links = elim cell.overflow [ None ↦ links ≡ [] | Some first ↦ IsChain nodes (overflow_pages kind nodes.usable cell.payload) first links ]
 
 -- the content of pages of these numbers: the bytes behind the link, up to the end of the usable ones
 abbrev pub content_of : ℕ → List (List ℕ) → List ℕ → List ℕ

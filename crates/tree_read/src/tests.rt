@@ -1,59 +1,177 @@
+ghost use Rattle.std.specs.Prelude.{◌≡◌, ◌≤◌, true, IfOk};
+ghost use Rattle.pager_core.specs.Pages.{disk_of, shape_of};
+
 use crate::{WalkError, tree_pages};
 use alter_disk::{Disk, MemoryDisk};
 use pager_core::{FileShape, Pages};
 use std::alloc::Global;
 use std::test::Fail;
 
-/// A file of so many pages of 512 bytes, with pieces at places in them.
-fn pages(
-    alloc: Global,
-    count: u32,
-    pieces: &[(u32, usize, &[u8])],
-) -> Result<Pages<MemoryDisk>, Fail> {
-    let mut db = vec![in alloc; 0u8; count as usize * 512]?;
-    for (page, at, piece) in pieces {
-        let from = (*page - 1) as usize * 512 + *at;
-        db[from..from + piece.len()].copy_from_slice(piece);
+/// The number of pages of the files of these tests.
+const COUNT: u32 = 24;
+
+/// Bytes from a place of a file on.
+type Piece<'a> = (usize, &'a [u8]);
+
+/// A file of pages of 512 bytes, with pieces in it.
+fn file(alloc: Global, pieces: &[Piece]) -> Result<Pages<MemoryDisk>, Fail>
+    ensures { IfOk result (λ pages. ((disk_of pages).called ≡ true) × ((shape_of pages).count ≡ COUNT)) }
+{
+    let mut db = vec![in alloc; 0u8; COUNT as usize * 512]?;
+    for (at, bytes) in pieces {
+        let end = at.checked_add(bytes.len()).ok_or("no such place")?;
+        if end > db.len() {
+            return Err("no such place".into());
+        }
+        db[*at..end].copy_from_slice(bytes);
     }
     let mut disk = MemoryDisk::new(alloc, "a.db", db.as_slice(), b"", 1 << 16, 99, &[])?;
     disk.open("a.db")?;
     let shape = FileShape {
         page: 512,
         usable: 512,
-        count,
+        count: COUNT,
         format: 4,
     };
     Ok(Pages::new(alloc, disk, shape))
 }
 
-/// An interior page of a table tree with a cell at 500 and the right-most child.
+/// The page at fault in the tree at page 2, or the number of its pages.
+fn answer(alloc: Global, pieces: &[Piece]) -> Result<Result<usize, u32>, Fail> {
+    let mut pages = file(alloc, pieces)?;
+    match tree_pages(alloc, &mut pages, 2) {
+        Ok(found) => Ok(Ok(found.len())),
+        Err(WalkError::Corrupt(page)) => Ok(Err(page)),
+        Err(_) => Err("a fault of reading or of memory".into()),
+    }
+}
+
+/// Where page 2 begins, and page 3, and so on.
+const TWO: usize = 512;
+const THREE: usize = 1024;
+const FOUR: usize = 1536;
+const FIVE: usize = 2048;
+
+/// An interior page of a table tree, with one cell at 500 and page 4 as its right-most child.
 const INNER: [u8; 14] = [5, 0, 0, 0, 1, 1, 244, 0, 0, 0, 0, 4, 1, 244];
-/// A leaf page of a table tree without a cell.
-const LEAF: [u8; 8] = [13, 0, 0, 0, 0, 2, 0, 0];
+/// The cell of its child 3, with the rowid 7.
+const CHILD: [u8; 5] = [0, 0, 0, 3, 7];
+/// A leaf page of a table tree without a cell, and one with a cell at 500.
+const EMPTY: [u8; 8] = [13, 0, 0, 0, 0, 2, 0, 0];
+const LEAF: [u8; 10] = [13, 0, 0, 0, 1, 1, 244, 0, 1, 244];
 
 #[test]
-fn the_pages_of_a_tree_of_two_levels(rt: HostRuntime) -> Result<(), Fail> {
-    let mut file = pages(
-        rt.alloc(),
-        4,
-        &[
-            (2, 0, &INNER),
-            (2, 500, &[0, 0, 0, 3, 7]),
-            (3, 0, &LEAF),
-            (4, 0, &LEAF),
-        ],
-    )?;
-    let found = tree_pages(rt.alloc(), &mut file, 2)?;
+fn a_tree_of_two_levels(rt: HostRuntime) -> Result<(), Fail> {
+    let cells = [
+        (TWO, INNER.as_slice()),
+        (TWO + 500, CHILD.as_slice()),
+        (THREE, LEAF.as_slice()),
+        (THREE + 500, [0, 7].as_slice()),
+        (FOUR, LEAF.as_slice()),
+        (FOUR + 500, [0, 8].as_slice()),
+    ];
+    let mut pages = file(rt.alloc(), &cells)?;
+    let found = tree_pages(rt.alloc(), &mut pages, 2)?;
     assert_eq!(rt; found.as_slice(), [2, 3, 4].as_slice());
     Ok(())
 }
 
-/// The page at fault in the tree at page 2.
-fn fault(alloc: Global, count: u32, pieces: &[(u32, usize, &[u8])]) -> Result<Option<u32>, Fail> {
-    let mut file = pages(alloc, count, pieces)?;
-    match tree_pages(alloc, &mut file, 2) {
-        Ok(_) => Ok(None),
-        Err(WalkError::Corrupt(page)) => Ok(Some(page)),
-        Err(_) => Err("a fault of reading or of memory".into()),
+#[test]
+fn rowids_stay_within_the_limits_of_their_parents(rt: HostRuntime) -> Result<(), Fail> {
+    for (left, right, at) in [(7, 8, Ok(3)), (8, 9, Err(3)), (7, 7, Err(4))] {
+        let cells = [
+            (TWO, INNER.as_slice()),
+            (TWO + 500, CHILD.as_slice()),
+            (THREE, LEAF.as_slice()),
+            (THREE + 500, [0, left].as_slice()),
+            (FOUR, LEAF.as_slice()),
+            (FOUR + 500, [0, right].as_slice()),
+        ];
+        assert_eq!(rt; answer(rt.alloc(), &cells)?, at);
     }
+    Ok(())
+}
+
+#[test]
+fn a_page_by_itself(rt: HostRuntime) -> Result<(), Fail> {
+    let kind = [7, 0, 0, 0, 0, 2, 0, 0];
+    let index = [10, 0, 0, 0, 0, 2, 0, 0];
+    for (leaf, at) in [(kind, Err(3)), (index, Err(3)), (EMPTY, Ok(3))] {
+        let cells = [
+            (TWO, INNER.as_slice()),
+            (TWO + 500, CHILD.as_slice()),
+            (THREE, leaf.as_slice()),
+            (FOUR, EMPTY.as_slice()),
+        ];
+        assert_eq!(rt; answer(rt.alloc(), &cells)?, at);
+    }
+    Ok(())
+}
+
+#[test]
+fn links_of_a_page(rt: HostRuntime) -> Result<(), Fail> {
+    for (child, at) in [(0, Err(2)), (25, Err(2)), (2, Err(2)), (4, Err(4)), (3, Ok(3))] {
+        let cells = [
+            (TWO, INNER.as_slice()),
+            (TWO + 500, [0, 0, 0, child, 7].as_slice()),
+            (THREE, EMPTY.as_slice()),
+            (FOUR, EMPTY.as_slice()),
+        ];
+        assert_eq!(rt; answer(rt.alloc(), &cells)?, at);
+    }
+    Ok(())
+}
+
+#[test]
+fn a_leaf_is_as_deep_as_the_first(rt: HostRuntime) -> Result<(), Fail> {
+    let deeper = [5, 0, 0, 0, 1, 1, 244, 0, 0, 0, 0, 6, 1, 244];
+    let cells = [
+        (TWO, INNER.as_slice()),
+        (TWO + 500, CHILD.as_slice()),
+        (THREE, EMPTY.as_slice()),
+        (FOUR, deeper.as_slice()),
+        (FOUR + 500, [0, 0, 0, 5, 9].as_slice()),
+        (FIVE, EMPTY.as_slice()),
+    ];
+    assert_eq!(rt; answer(rt.alloc(), &cells)?, Err(5));
+    let no_cell = [5, 0, 0, 0, 0, 2, 0, 0, 0, 0, 0, 6];
+    let cells = [
+        (TWO, INNER.as_slice()),
+        (TWO + 500, CHILD.as_slice()),
+        (THREE, EMPTY.as_slice()),
+        (FOUR, no_cell.as_slice()),
+    ];
+    assert_eq!(rt; answer(rt.alloc(), &cells)?, Err(4));
+    Ok(())
+}
+
+#[test]
+fn a_chain_is_as_long_as_needed(rt: HostRuntime) -> Result<(), Fail> {
+    // A payload of 1000 bytes has 39 in its cell and the others on pages 3 and 4.
+    for (second, third, at) in [(4, 0, Ok(3)), (0, 0, Err(3)), (4, 5, Err(4)), (25, 0, Err(3)), (3, 0, Err(3))] {
+        let cells = [
+            (TWO, [13, 0, 0, 0, 1, 1, 44, 0, 1, 44].as_slice()),
+            (TWO + 300, [0x87, 0x68, 1].as_slice()),
+            (TWO + 342, [0, 0, 0, 3].as_slice()),
+            (THREE, [0, 0, 0, second].as_slice()),
+            (FOUR, [0, 0, 0, third].as_slice()),
+        ];
+        assert_eq!(rt; answer(rt.alloc(), &cells)?, at);
+    }
+    Ok(())
+}
+
+#[test]
+fn a_page_deeper_than_twenty(rt: HostRuntime) -> Result<(), Fail> {
+    let mut pages = file(rt.alloc(), &[])?;
+    for page in 2..23u8 {
+        let child = [5, 0, 0, 0, 1, 1, 244, 0, 0, 0, 0, 24, 1, 244];
+        pages.change(u32::from(page), 0, &child)?;
+        pages.change(u32::from(page), 500, &[0, 0, 0, page + 1, 7])?;
+    }
+    match tree_pages(rt.alloc(), &mut pages, 2) {
+        Err(WalkError::Corrupt(page)) => assert_eq!(rt; page, 22),
+        _ => assert!(rt; false, "a tree of 21 levels"),
+    }
+    Ok(())
 }
