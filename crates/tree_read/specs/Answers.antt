@@ -1,8 +1,10 @@
 -- How a walk is answered.
-use Rattle.std.specs.Prelude.{◌≡◌, ℕ, Result, Ok, Err, true, false, Option, Some, None, Vec}
+use Rattle.std.specs.Prelude.{◌≡◌, ℕ, Result, Ok, Err, true, false, Option, Some, None, Vec, IsErrOf}
 use Rattle.std.specs.Global.{Global}
 use Rattle.pager_core.specs.declared.error.PageError as pages
 use Rattle.pager_core.specs.declared.error.PageError.TheVariants as page
+use Rattle.page_cells.specs.declared.error.CellError as cells
+use Rattle.page_cells.specs.declared.error.CellError.TheVariants as cell
 use Rattle.tree_read.specs.declared.error.WalkError.{WalkError}
 use Rattle.tree_read.specs.declared.error.WalkError.TheVariants.{Memory, Failed, Corrupt}
 use Rattle.alter_disk.specs.declared.disk.Disk.{Ghosts}
@@ -17,6 +19,12 @@ use Rattle.tree_read.specs.Walk.{Outcome, Done, Fault, Walked, is_next}
 abbrev pub walk_error : pages.PageError → WalkError
 walk_error (page.Memory fault) = Memory fault
 walk_error page.Failed = Failed
+
+-- the error in place of one at the cells of a page
+abbrev pub cell_error : cells.CellError → ℕ → WalkError
+cell_error (cell.Memory fault) page = Memory fault
+cell_error cell.Kind page = Corrupt page
+cell_error (cell.Bounds at) page = Corrupt page
 
 -- the walk is answered by its first fault, unless memory ran out or a read failed
 abbrev pub AnswersFault : WalkError → Outcome → Type 0
@@ -59,3 +67,7 @@ MeetsLink nodes page left (Err error) = AnswersLink nodes page left error
 pub record OnlyReads {D T : Type 0} (disk : Ghosts D) (old new : Pages D) (result : Result T WalkError) : Type 0 where
   pub stay : StayAll disk old new
   pub cause : HasCauseOf Failed (disk.read_faults (disk_of old)) (disk.read_faults (disk_of new)) result
+
+-- the answer is not that a read failed
+abbrev pub NeverFails : {T : Type 0} → Result T WalkError → Type 0
+NeverFails result = IsErrOf result Failed → ⊥

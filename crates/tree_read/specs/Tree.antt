@@ -46,7 +46,7 @@ beside a b = record { places = a.places ++ b.places; pages = a.pages ++ b.pages 
 -- a cell with its overflow pages
 pub record IsHeld (nodes : Nodes) (kind : Kind) (place : Place) (cell : Cell) (part : Part) : Type 0 where
   pub chain : HasChain nodes kind cell part.pages
-  pub place : part.places ≡ place ∷ []
+  pub held : part.places ≡ place ∷ []
 
 -- the cells of a leaf from place i on
 abbrev pub AreLeafCells : Nodes → Kind → ℕ → ℕ → List Cell → Part → Type 0

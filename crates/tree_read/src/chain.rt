@@ -19,7 +19,7 @@ fn overflow_pages(kind: Kind, usable: u32, payload: u64) -> u64
     requires most { usable ≤ most_usable }
     ensures { result ≡ spec.overflow_pages kind usable payload }
 {
-    let rest = payload - local_len(kind, usable, payload);
+    let rest = payload.saturating_sub(local_len(kind, usable, payload));
     rest.div_ceil(u64::from(usable - 4))
 }
 
@@ -43,8 +43,9 @@ fn next_link<D: Disk>(pages: &mut Pages<D>, page: u32, left: u64) -> Result<u32,
     ensures reads { OnlyReads D.Disk pages.old pages.new result }
 {
     pages.load(page)?;
+    let count = pages.shape().count;
     let next = u32_at(pages.loaded(page), 0);
-    if !is_next(pages.count(), left, next) {
+    if !is_next(count, left, next) {
         return Err(WalkError::Corrupt(page));
     }
     Ok(next)

@@ -1,3 +1,6 @@
+ghost use Rattle.std.specs.Prelude.{◌≡◌};
+ghost use Rattle.tree_read.specs.Answers.{cell_error};
+
 use page_cells::CellError;
 use pager_core::PageError;
 use std::alloc::{AllocError, AllocFailed};
@@ -53,7 +56,9 @@ impl From<PageError> for WalkError {
 }
 
 /// The answer where a page has no cells.
-pub(crate) fn no_cells(fault: CellError, page: u32) -> WalkError {
+pub(crate) fn no_cells(fault: CellError, page: u32) -> WalkError
+    ensures { result ≡ cell_error fault page }
+{
     match fault {
         CellError::Memory(fault) => WalkError::Memory(fault),
         CellError::Kind | CellError::Bounds(_) => WalkError::Corrupt(page),

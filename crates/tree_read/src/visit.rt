@@ -42,10 +42,12 @@ fn walk_page<D: Disk>(
     if !may_stand(pages.count(), table, limits, page, &node) {
         return Err(WalkError::Corrupt(page));
     }
+    let kind = node.kind;
+    let right = node.right;
     let cells = node.cells.as_slice();
     let below = levels - 1;
-    match node.right {
-        None => walk_leaf(pages, walk, node.kind, below, page, cells),
+    match right {
+        None => walk_leaf(pages, walk, kind, below, page, cells),
         Some(right) => walk_inner(
             alloc, pages, walk, table, below, limits, page, cells, right,
         ),

@@ -1,6 +1,6 @@
 //! What a walk through trees has found.
 ghost use Rattle.std.specs.Prelude.{◌≡◌, IfOk, IsErr};
-ghost use Rattle.tree_read.specs.Answers.{Meets};
+ghost use Rattle.tree_read.specs.Answers.{Meets, NeverFails};
 ghost use Rattle.tree_read.specs.Walk.{Found, Holds, Leaf, begun, step, unwalked};
 
 use crate::WalkError;
@@ -51,8 +51,10 @@ impl Walk {
     }
 
     /// Takes a page of the file that has no owner.
+    #[tactic(auto, unfolding(crate::specs::Walk::step))]
     pub(crate) fn find(&mut self, page: u32) -> Result<(), WalkError>
-        ensures { Meets result self.new (step self.old (Found page)) }
+        ensures walk { Meets result self.new (step self.old (Found page)) }
+        ensures quiet { NeverFails result }
     {
         let at = page as usize;
         if at >= self.owners.len() || self.owners[at] != 0 {
@@ -64,8 +66,10 @@ impl Walk {
     }
 
     /// Takes a leaf, which is as deep as the first one of its tree.
+    #[tactic(auto, unfolding(crate::specs::Walk::step))]
     pub(crate) fn settle(&mut self, page: u32, level: u32) -> Result<(), WalkError>
-        ensures { Meets result self.new (step self.old (Leaf page level)) }
+        ensures walk { Meets result self.new (step self.old (Leaf page level)) }
+        ensures quiet { NeverFails result }
     {
         match self.level {
             Some(first) => {
@@ -79,8 +83,10 @@ impl Walk {
     }
 
     /// Takes a cell.
+    #[tactic(auto, unfolding(crate::specs::Walk::step))]
     pub(crate) fn hold(&mut self, place: Place) -> Result<(), WalkError>
-        ensures { Meets result self.new (step self.old (Holds place)) }
+        ensures walk { Meets result self.new (step self.old (Holds place)) }
+        ensures quiet { NeverFails result }
     {
         self.places.push(place)?;
         Ok(())

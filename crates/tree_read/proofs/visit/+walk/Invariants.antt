@@ -17,9 +17,9 @@ decreases-walk_inner g l = 3 * l.levels + 2
 -- the walk goes on with the children that are left, and no read failed
 abbrev pub invariant-walk_inner-loop-i : goal.invariant-walk_inner-loop-i
 invariant-walk_inner-loop-i g l = record {
-  links : are_links (shape_of l.fn.pages).count (drop l.i l.cells.now) ≡ true;
+  links : are_links (shape_of l.fn.pages).count (drop l.i l.cells) ≡ true;
   stay : StayAll g.D.Disk l.fn.pages l.pages;
   faultless : g.D.Disk.read_faults (disk_of l.pages) ≡ g.D.Disk.read_faults (disk_of l.fn.pages);
-  walk : (nodes : Nodes) → HasNodes nodes l.pages → run l.fn.walk (children nodes l.table l.levels l.limits l.page l.cells.now l.right)
-      ≡ run l.walk (children_by nodes (trace nodes l.table l.levels) l.table l.page l.i l.low l.limits.high (drop l.i l.cells.now) l.right);
+  walk : (nodes : Nodes) → HasNodes nodes l.pages → run l.fn.walk (children nodes l.table l.levels l.limits l.page l.cells l.right)
+      ≡ run l.walk (children_by nodes (trace nodes l.table l.levels) l.table l.page l.i l.low l.limits.high (drop l.i l.cells) l.right);
 }
