@@ -72,3 +72,7 @@ run-one walk event = by (step walk event) refl
 
 pub meets_one : {T : Type 0} (result : Result T WalkError) (walk last : Walked) (event : Event) → Meets result last (step walk event) → Meets result last (run walk (event ∷ []))
 meets_one result walk last event meets = subst (λ (outcome : Outcome). Meets result last outcome) (sym (run-one walk event)) meets
+
+-- an outcome that is the same is met the same
+pub meets_same : {T : Type 0} (result : Result T WalkError) (last : Walked) (first second : Outcome) → second ≡ first → Meets result last first → Meets result last second
+meets_same result last first second same meets = subst (λ (outcome : Outcome). Meets result last outcome) (sym same) meets

@@ -103,11 +103,13 @@ ChildWalk = Limits → ℕ → List Event
 abbrev pub between : Option ℤ → Option ℤ → Limits
 between low high = record { low = low; high = high }
 
--- the child of a cell of an interior page, whose rowids are at most the cell's, and then the cell, which is an entry in
--- an index alone
+-- the child of a cell of an interior page, whose rowids are at most the cell's
+abbrev pub child_by : ChildWalk → Option ℤ → Cell → List Event
+child_by child low cell = elim cell.left [ None ↦ [] | Some page ↦ child (between low cell.rowid) page ]
+
+-- the child of a cell and then the cell, which is an entry in an index alone
 abbrev pub left_by : Nodes → ChildWalk → Bool → Option ℤ → Place → Cell → List Event
-left_by nodes child table low place cell =
-    (elim cell.left [ None ↦ [] | Some page ↦ child (between low cell.rowid) page ]) ++ (if table then [] else held nodes IndexInner place cell)
+left_by nodes child table low place cell = child_by child low cell ++ (if table then [] else held nodes IndexInner place cell)
 
 -- the children of an interior page with its cells between them, from place i on; the rowids behind a cell are greater
 unfoldable pub children_by : Nodes → ChildWalk → Bool → ℕ → ℕ → Option ℤ → Option ℤ → List Cell → ℕ → List Event
@@ -132,7 +134,10 @@ unfoldable pub trace : Nodes → Bool → ℕ → Limits → ℕ → List Event
 trace nodes table zero limits page = Wrong page ∷ []
 trace nodes table (suc levels) limits page = Found page ∷ visit nodes (trace nodes table levels) table levels limits page (nodes.cells page)
 
--- the child of a cell and the cell, and all children of an interior page
+-- the child of a cell, the child and the cell, and all children of an interior page
+abbrev pub child_part : Nodes → Bool → ℕ → Option ℤ → Cell → List Event
+child_part nodes table levels low cell = child_by (trace nodes table levels) low cell
+
 abbrev pub left_part : Nodes → Bool → ℕ → Option ℤ → Place → Cell → List Event
 left_part nodes table levels low place cell = left_by nodes (trace nodes table levels) table low place cell
 

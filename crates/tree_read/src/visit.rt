@@ -4,7 +4,7 @@ ghost use Rattle.pager_core.specs.Pages.{IsPage, disk_of, shape_of};
 ghost use Rattle.tree_read.specs.Answers.{Meets, OnlyReads};
 ghost use Rattle.tree_read.specs.Node.{are_links};
 ghost use Rattle.tree_read.specs.Nodes.{HasNodes, Nodes};
-ghost use Rattle.tree_read.specs.Walk.{Leaf, children, leaf_cells, left_part, run, trace, walk_tree};
+ghost use Rattle.tree_read.specs.Walk.{Leaf, child_part, children, leaf_cells, left_part, run, trace, walk_tree};
 
 use crate::chain::walk_cell;
 use crate::node::{may_stand, read_node};
@@ -105,17 +105,39 @@ fn walk_left<D: Disk>(
     ensures walk { (nodes : Nodes) → HasNodes nodes pages.new → Meets result walk.new (run walk.old (left_part nodes table levels low place cell.now)) }
     ensures reads { OnlyReads D.Disk pages.old pages.new result }
 {
-    if let Some(left) = cell.left {
-        let child = Limits {
-            low,
-            high: cell.rowid,
-        };
-        walk_page(alloc, pages, walk, table, levels, child, left)?;
-    }
+    walk_child(alloc, pages, walk, table, levels, low, cell)?;
     if table {
         Ok(())
     } else {
         walk_cell(pages, walk, Kind::IndexInner, place, cell)
+    }
+}
+
+/// Walks through the child of a cell of an interior page.
+#[cycle(walk)]
+fn walk_child<D: Disk>(
+    alloc: Global,
+    pages: &mut Pages<D>,
+    walk: &mut Walk,
+    table: bool,
+    levels: u32,
+    low: Option<i64>,
+    cell: &Cell,
+) -> Result<(), WalkError>
+    requires called { D.called (disk_of pages.old) ≡ true }
+    requires left { IfSome cell.now.left (IsPage pages.old) }
+    ensures walk { (nodes : Nodes) → HasNodes nodes pages.new → Meets result walk.new (run walk.old (child_part nodes table levels low cell.now)) }
+    ensures reads { OnlyReads D.Disk pages.old pages.new result }
+{
+    match cell.left {
+        Some(left) => {
+            let child = Limits {
+                low,
+                high: cell.rowid,
+            };
+            walk_page(alloc, pages, walk, table, levels, child, left)
+        }
+        None => Ok(()),
     }
 }
 

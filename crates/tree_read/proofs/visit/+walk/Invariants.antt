@@ -6,13 +6,16 @@ use Rattle.tree_read.specs.Walk.{children, children_by, run, trace}
 use Rattle.tree_read.proofs.visit.+walk.Given as goal
 
 abbrev pub decreases-walk_page : goal.decreases-walk_page
-decreases-walk_page g l = 3 * l.levels
+decreases-walk_page g l = 4 * l.levels
+
+abbrev pub decreases-walk_child : goal.decreases-walk_child
+decreases-walk_child g l = 4 * l.levels + 1
 
 abbrev pub decreases-walk_left : goal.decreases-walk_left
-decreases-walk_left g l = 3 * l.levels + 1
+decreases-walk_left g l = 4 * l.levels + 2
 
 abbrev pub decreases-walk_inner : goal.decreases-walk_inner
-decreases-walk_inner g l = 3 * l.levels + 2
+decreases-walk_inner g l = 4 * l.levels + 3
 
 -- the walk goes on with the children that are left, and no read failed
 abbrev pub invariant-walk_inner-loop-i : goal.invariant-walk_inner-loop-i
