@@ -1,7 +1,8 @@
 -- The walk through a page, a cell or a child at a time.
-use Rattle.std.proofs.Common.{◌≡◌, ◌≤◌, ◌<◌, ℕ, ℤ, zero, suc, ◌+◌, ◌-◌, Bool, true, false, if◌then◌else◌, ◌&&◌, Result, List, [], ◌∷◌, ◌++◌, length, get_or, drop, Option, Some, None, refl, sym, ap, ◌∙◌, subst, arith}
+use Rattle.std.proofs.Common.{◌≡◌, ◌≤◌, ◌<◌, ℕ, ℤ, zero, suc, ◌+◌, ◌-◌, Bool, true, false, if◌then◌else◌, ◌&&◌, nat_le, ◌==◌, slice_index_or, replicate, ap₂, Result, List, [], ◌∷◌, ◌++◌, length, get_or, drop, Option, Some, None, refl, sym, ap, ◌∙◌, subst, arith}
 use Rattle.std.proofs.Math.Seq.{drop-cons}
-use Rattle.std.proofs.lemmas.List.{drop-drop, drop_all}
+use Rattle.std.proofs.lemmas.Bool.{leb-true}
+use Rattle.std.proofs.lemmas.List.{drop-drop, drop_all, get_or-replicate}
 use Rattle.page_cells.specs.declared.kind.Kind.{Kind}
 use Rattle.page_cells.specs.declared.kind.Kind.TheVariants.{IndexInner}
 use Rattle.page_cells.specs.declared.cell.Cell.{Cell}
@@ -11,9 +12,9 @@ use Rattle.tree_read.specs.declared.error.WalkError.TheVariants.{Memory, Failed,
 use Rattle.tree_read.specs.declared.place.Limits.{Limits}
 use Rattle.tree_read.specs.declared.place.Place.{Place}
 use Rattle.tree_read.specs.Answers.{AnswersFault, AnswersNone, Meets}
-use Rattle.tree_read.specs.Node.{are_links, is_link, may_stand}
+use Rattle.tree_read.specs.Node.{are_links, ascend, has_least, is_link, is_of, is_table, may_stand}
 use Rattle.tree_read.specs.Nodes.{Nodes, is_page}
-use Rattle.tree_read.specs.Walk.{ChildWalk, Done, Event, Fault, Found, Leaf, Outcome, Walked, Wrong, below, between, child_by, child_part, children, children_by, held, leaf_cells, left_by, left_part, run, step, trace, visit}
+use Rattle.tree_read.specs.Walk.{ChildWalk, Done, Event, Fault, Found, Leaf, Outcome, Walked, Wrong, begun, below, between, child_by, child_part, children, children_by, held, is_free, is_table_at, leaf_cells, left_by, left_part, most_levels, no_limits, run, step, trace, unwalked, visit, walk_found, walk_tree, with_found}
 use Rattle.tree_read.proofs.Runs.{answers_front, answers_same, answers_step, goes_on, goes_on_step, meets_on, run-append, run-none, stops_step}
 
 and_right : (a b : Bool) → a && b ≡ true → b ≡ true
@@ -31,6 +32,22 @@ links_tail count (cell ∷ cells) are = and_right (is_link count cell.left && is
 
 pub links_more : (count i : ℕ) (cells : List Cell) → are_links count (drop i cells) ≡ true → are_links count (drop (i + 1) cells) ≡ true
 links_more count i cells are = subst (λ (rest : List Cell). are_links count rest ≡ true) (drop-drop 1 i cells) (links_tail count (drop i cells) are)
+
+-- the links of a page that may stand in a tree
+module _ (count : ℕ) (table : Bool) (limits : Limits) (page : ℕ) (node : PageCells) (stands : may_stand count table limits page node ≡ true) where
+  stands_front : (is_of table node.kind && has_least page node && is_link count node.right) && are_links count node.cells ≡ true
+  stands_front =
+      and_left ((is_of table node.kind && has_least page node && is_link count node.right) && are_links count node.cells) (ascend limits.low limits.high node.cells) stands
+
+  pub stands_links : are_links count node.cells ≡ true
+  stands_links = and_right (is_of table node.kind && has_least page node && is_link count node.right) (are_links count node.cells) stands_front
+
+  pub stands_right : (right : ℕ) → node.right ≡ Some right → (1 ≤ right) × (right ≤ count)
+  stands_right right is =
+      let link = and_right (is_of table node.kind && has_least page node) (is_link count node.right)
+        (and_left (is_of table node.kind && has_least page node && is_link count node.right) (are_links count node.cells) stands_front) in
+      let page = subst (λ (link : Option ℕ). is_link count link ≡ true) is link in
+      (leb-true 1 right (and_left (nat_le 1 right) (nat_le right count) page), leb-true right count (and_right (nat_le 1 right) (nat_le right count) page))
 
 -- the cells of a leaf: one more, and none left
 leaf-cons : (nodes : Nodes) (kind : Kind) (page i : ℕ) (cells : List Cell) (d : Cell) → i < length cells
@@ -178,3 +195,22 @@ module _ (nodes : Nodes) (table : Bool) (levels : ℕ) (limits : Limits) (page :
       | None ↦ Leaf page (levels - 1) ∷ leaf_cells nodes node.kind page 0 node.cells
       | Some right ↦ children nodes table (levels - 1) limits page node.cells right
     ])) some_right
+
+-- the root of a walk of its own
+root_found : (count root : ℕ) → 1 ≤ root → root ≤ count → step (begun root (unwalked count)) (Found root) ≡ Done (with_found (begun root (unwalked count)) root)
+unfolding step
+root_found count root low high =
+    let none : slice_index_or (replicate (count + 1) 0) root 1 ≡ 0 = get_or-replicate (count + 1) root 0 1 (omega arith) in
+    ap (λ (owner : ℕ). if owner == 0 then Done (with_found (begun root (unwalked count)) root) else Fault root) none
+
+pub no_root : (nodes : Nodes) (root : ℕ) (error : WalkError) → 1 ≤ root → root ≤ nodes.count → AnswersNone root error (nodes.cells root) → AnswersFault error (walk_found nodes root)
+no_root nodes root error low high none =
+    no_cells_stop nodes (is_table_at nodes root) most_levels no_limits root (begun root (unwalked nodes.count)) (omega arith) (with_found (begun root (unwalked nodes.count)) root) error
+      (root_found nodes.count root low high) none
+
+-- the walk of the root's kind
+pub walk_of_root : (nodes : Nodes) (root count : ℕ) (node : PageCells) → nodes.count ≡ count → nodes.cells root ≡ Some node
+    → walk_found nodes root ≡ walk_tree nodes (is_table node.kind) root (unwalked count)
+walk_of_root nodes root count node same cells =
+    let table : is_table_at nodes root ≡ is_table node.kind = ap (λ (found : Option PageCells). elim found [ None ↦ false | Some page ↦ is_table page.kind ]) cells in
+    ap₂ (λ (t : Bool) (n : ℕ). walk_tree nodes t root (unwalked n)) table same

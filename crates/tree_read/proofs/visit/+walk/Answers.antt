@@ -1,12 +1,13 @@
-use Rattle.std.proofs.Common.{◌≡◌, ℕ, true, false, refl, sym, ap, ◌∙◌, arith}
+use Rattle.std.proofs.Common.{◌≡◌, ◌≤◌, ℕ, ◌-◌, true, false, List, ◌∷◌, refl, sym, ap, ap₂, ◌∙◌, arith, rules}
+use Rattle.page_cells.specs.declared.cell.Cell.{Cell}
 use Rattle.std.proofs.lemmas.Result.{err_from_is_err_and}
 use Rattle.pager_core.specs.Pages.{shape_of}
-use Rattle.tree_read.specs.Node.{may_stand}
+use Rattle.tree_read.specs.Node.{are_links, may_stand}
 use Rattle.tree_read.specs.Nodes.{Nodes}
-use Rattle.tree_read.specs.Walk.{run, trace}
+use Rattle.tree_read.specs.Walk.{Leaf, children, leaf_cells, run, trace}
 use Rattle.tree_read.proofs.Read.{nodes_before, reads_quiet, stay_none, stay_on}
 use Rattle.tree_read.proofs.Runs.{answers_same, meets_same}
-use Rattle.tree_read.proofs.Visits.{child-none, children-none, children_go_on, children_stop, left_of_index, left_of_table, left_stops, links_more, no_cells_stop, page_stops, stands_inner, stands_leaf, stands_not, too_deep}
+use Rattle.tree_read.proofs.Visits.{child-none, children-none, children_go_on, children_stop, left_of_index, left_of_table, left_stops, links_more, no_cells_stop, page_stops, stands_inner, stands_leaf, stands_links, stands_not, stands_right, too_deep}
 use Rattle.tree_read.proofs.visit.+walk.Goals as goal
 
 pub walk_inner-returns-in_err-walk_left-clause-walk : goal.walk_inner-returns-in_err-walk_left-clause-walk
@@ -91,11 +92,21 @@ walk_page-returns-in-None-clause-walk g t c = λ nodes has.
     let count = before.count ∙ sym c.count.ensures in
     meets_same c.walk_leaf.result c.walk_leaf.new.walk _ _
       (stands_leaf nodes c.args.table c.args.levels c.args.limits c.args.page c.args.walk.now (omega (arith, c.if-levels-eq0.false)) c.find.new.self node c.in_ok-find.ensures.walk (c.in_ok-node.ensures.node nodes before)
-        (ap (λ (n : ℕ). may_stand n c.args.table c.args.limits c.args.page node) count ∙ sym c.may_stand.ensures ∙ c.if-not-may_stand.false) c.in-None.is)
+        (ap (λ (n : ℕ). may_stand n c.args.table c.args.limits c.args.page node) count ∙ sym c.may_stand.ensures ∙ c.if-not-may_stand.false) c.in-None.is
+      ∙ ap (λ (cells : List Cell). run c.find.new.self (Leaf c.args.page (c.args.levels - 1) ∷ leaf_cells nodes node.kind c.args.page 0 cells)) (sym c.as_slice-cells.ensures))
       (c.walk_leaf.ensures.walk nodes has)
 
 pub walk_page-walk_inner-requires : goal.walk_page-walk_inner-requires
-walk_page-walk_inner-requires g t c = ?
+walk_page-walk_inner-requires g t c =
+    let node = c.in_ok-node.node in
+    let stands : may_stand c.count.result c.args.table c.args.limits c.args.page node ≡ true = sym c.may_stand.ensures ∙ c.if-not-may_stand.false in
+    let at = stands_links c.count.result c.args.table c.args.limits c.args.page node stands in
+    let links : are_links (shape_of c.read_node.new.pages).count c.as_slice-cells.result.now ≡ true =
+      ap₂ are_links (sym c.count.ensures) c.as_slice-cells.ensures ∙ at in
+    let right = stands_right c.count.result c.args.table c.args.limits c.args.page node stands c.in-Some.right c.in-Some.is in
+    let low : 1 ≤ c.in-Some.right = right.0 in
+    let high : c.in-Some.right ≤ (shape_of c.read_node.new.pages).count = omega (arith, right.1, c.count.ensures) in
+    search rules
 
 pub walk_page-returns-clause-walk : goal.walk_page-returns-clause-walk
 walk_page-returns-clause-walk g t c = λ nodes has.
@@ -104,5 +115,6 @@ walk_page-returns-clause-walk g t c = λ nodes has.
     let count = before.count ∙ sym c.count.ensures in
     meets_same c.walk_inner.result c.walk_inner.new.walk _ _
       (stands_inner nodes c.args.table c.args.levels c.args.limits c.args.page c.args.walk.now (omega (arith, c.if-levels-eq0.false)) c.find.new.self node c.in_ok-find.ensures.walk (c.in_ok-node.ensures.node nodes before) c.in-Some.right
-        (ap (λ (n : ℕ). may_stand n c.args.table c.args.limits c.args.page node) count ∙ sym c.may_stand.ensures ∙ c.if-not-may_stand.false) c.in-Some.is)
+        (ap (λ (n : ℕ). may_stand n c.args.table c.args.limits c.args.page node) count ∙ sym c.may_stand.ensures ∙ c.if-not-may_stand.false) c.in-Some.is
+      ∙ ap (λ (cells : List Cell). run c.find.new.self (children nodes c.args.table (c.args.levels - 1) c.args.limits c.args.page cells c.in-Some.right)) (sym c.as_slice-cells.ensures))
       (c.walk_inner.ensures.walk nodes has)
