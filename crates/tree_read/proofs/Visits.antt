@@ -45,7 +45,7 @@ module _ (count : ℕ) (table : Bool) (limits : Limits) (page : ℕ) (node : Pag
   pub stands_right : (right : ℕ) → node.right ≡ Some right → (1 ≤ right) × (right ≤ count)
   stands_right right is =
       let link = and_right (is_of table node.kind && has_least page node) (is_link count node.right)
-        (and_left (is_of table node.kind && has_least page node && is_link count node.right) (are_links count node.cells) stands_front) in
+      (and_left (is_of table node.kind && has_least page node && is_link count node.right) (are_links count node.cells) stands_front) in
       let page = subst (λ (link : Option ℕ). is_link count link ≡ true) is link in
       (leb-true 1 right (and_left (nat_le 1 right) (nat_le right count) page), leb-true right count (and_right (nat_le 1 right) (nat_le right count) page))
 
@@ -67,7 +67,7 @@ pub leaf_stops : (nodes : Nodes) (kind : Kind) (page i : ℕ) (cells : List Cell
     → AnswersFault error (run walk (leaf_cells nodes kind page i (drop i cells)))
 leaf_stops nodes kind page i cells d walk error bound answers =
     answers_same error _ (run walk (leaf_cells nodes kind page i (drop i cells))) (ap (run walk) (leaf-cons nodes kind page i cells d bound))
-      (answers_front error walk (held nodes kind (record { page = page; cell = i }) (get_or cells i d)) (leaf_cells nodes kind page (i + 1) (drop (i + 1) cells)) answers)
+    (answers_front error walk (held nodes kind (record { page = page; cell = i }) (get_or cells i d)) (leaf_cells nodes kind page (i + 1) (drop (i + 1) cells)) answers)
 
 pub leaf-none : (nodes : Nodes) (kind : Kind) (page i : ℕ) (cells : List Cell) (walk : Walked) → length cells ≤ i → run walk (leaf_cells nodes kind page i (drop i cells)) ≡ Done walk
 unfolding leaf_cells
@@ -76,7 +76,7 @@ leaf-none nodes kind page i cells walk bound = ap (λ (cs : List Cell). run walk
 -- the children of an interior page: one more, and none left but the right-most
 children-cons : (nodes : Nodes) (child : ChildWalk) (table : Bool) (page i : ℕ) (low high : Option ℤ) (cells : List Cell) (right : ℕ) (d : Cell) → i < length cells
     → children_by nodes child table page i low high (drop i cells) right
-      ≡ left_by nodes child table low (record { page = page; cell = i }) (get_or cells i d) ++ children_by nodes child table page (i + 1) (get_or cells i d).rowid high (drop (i + 1) cells) right
+    ≡ left_by nodes child table low (record { page = page; cell = i }) (get_or cells i d) ++ children_by nodes child table page (i + 1) (get_or cells i d).rowid high (drop (i + 1) cells) right
 unfolding children_by
 children-cons nodes child table page i low high cells right d bound =
     let e : i + 1 ≡ suc i = omega arith in rw e (ap (λ (cs : List Cell). children_by nodes child table page i low high cs right) (drop-cons cells i d bound))
@@ -87,15 +87,15 @@ pub children_go_on : (nodes : Nodes) (child : ChildWalk) (table : Bool) (page i 
 children_go_on nodes child table page i low high cells right d walk mid bound done =
     ap (run walk) (children-cons nodes child table page i low high cells right d bound)
     ∙ goes_on walk mid (left_by nodes child table low (record { page = page; cell = i }) (get_or cells i d))
-      (children_by nodes child table page (i + 1) (get_or cells i d).rowid high (drop (i + 1) cells) right) done
+    (children_by nodes child table page (i + 1) (get_or cells i d).rowid high (drop (i + 1) cells) right) done
 
 pub children_stop : (nodes : Nodes) (child : ChildWalk) (table : Bool) (page i : ℕ) (low high : Option ℤ) (cells : List Cell) (right : ℕ) (d : Cell) (walk : Walked) (error : WalkError) → i < length cells
     → AnswersFault error (run walk (left_by nodes child table low (record { page = page; cell = i }) (get_or cells i d)))
     → AnswersFault error (run walk (children_by nodes child table page i low high (drop i cells) right))
 children_stop nodes child table page i low high cells right d walk error bound answers =
     answers_same error _ (run walk (children_by nodes child table page i low high (drop i cells) right)) (ap (run walk) (children-cons nodes child table page i low high cells right d bound))
-      (answers_front error walk (left_by nodes child table low (record { page = page; cell = i }) (get_or cells i d))
-        (children_by nodes child table page (i + 1) (get_or cells i d).rowid high (drop (i + 1) cells) right) answers)
+    (answers_front error walk (left_by nodes child table low (record { page = page; cell = i }) (get_or cells i d))
+    (children_by nodes child table page (i + 1) (get_or cells i d).rowid high (drop (i + 1) cells) right) answers)
 
 pub children-none : (nodes : Nodes) (child : ChildWalk) (table : Bool) (page i : ℕ) (low high : Option ℤ) (cells : List Cell) (right : ℕ) → length cells ≤ i
     → children_by nodes child table page i low high (drop i cells) right ≡ child (between low high) right
@@ -150,7 +150,7 @@ module _ (nodes : Nodes) (table : Bool) (levels : ℕ) (limits : Limits) (page :
   pub page_stops : (error : WalkError) → AnswersFault error (step walk (Found page)) → AnswersFault error (run walk (trace nodes table levels limits page))
   page_stops error answers =
       answers_same error _ (run walk (trace nodes table levels limits page)) (ap (run walk) trace-some)
-        (answers_step error walk (Found page) (visit nodes (trace nodes table (levels - 1)) table (levels - 1) limits page (nodes.cells page)) answers)
+      (answers_step error walk (Found page) (visit nodes (trace nodes table (levels - 1)) table (levels - 1) limits page (nodes.cells page)) answers)
 
   -- what comes behind it
   page_found : (mid : Walked) → step walk (Found page) ≡ Done mid
@@ -206,7 +206,7 @@ root_found count root low high =
 pub no_root : (nodes : Nodes) (root : ℕ) (error : WalkError) → 1 ≤ root → root ≤ nodes.count → AnswersNone root error (nodes.cells root) → AnswersFault error (walk_found nodes root)
 no_root nodes root error low high none =
     no_cells_stop nodes (is_table_at nodes root) most_levels no_limits root (begun root (unwalked nodes.count)) (omega arith) (with_found (begun root (unwalked nodes.count)) root) error
-      (root_found nodes.count root low high) none
+    (root_found nodes.count root low high) none
 
 -- the walk of the root's kind
 pub walk_of_root : (nodes : Nodes) (root count : ℕ) (node : PageCells) → nodes.count ≡ count → nodes.cells root ≡ Some node

@@ -1,5 +1,4 @@
 pub mod Answers
 pub mod Node
 pub mod Nodes
-pub mod Tree
 pub mod Walk

@@ -4,8 +4,8 @@
 mod chain;
 mod error;
 mod node;
-mod place;
 mod pages;
+mod place;
 #[cfg(test)]
 mod tests;
 mod visit;

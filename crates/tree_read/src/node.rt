@@ -46,7 +46,11 @@ pub(crate) fn is_table(kind: Kind) -> bool
 fn is_of(table: bool, kind: Kind) -> bool
     ensures { result ≡ spec.is_of table kind }
 {
-    if table { is_table(kind) } else { !is_table(kind) }
+    if table {
+        is_table(kind)
+    } else {
+        !is_table(kind)
+    }
 }
 
 /// Whether a page of a file of so many is named, or none is.

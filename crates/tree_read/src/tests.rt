@@ -48,8 +48,11 @@ fn answer(alloc: Global, pieces: &[Piece]) -> Result<Result<usize, u32>, Fail> {
 
 /// Where page 2 begins, and page 3, and so on.
 const TWO: usize = 512;
+
 const THREE: usize = 1024;
+
 const FOUR: usize = 1536;
+
 const FIVE: usize = 2048;
 
 /// An interior page of a table tree, with one cell at 500 and page 4 as its right-most child.
@@ -58,6 +61,7 @@ const INNER: [u8; 14] = [5, 0, 0, 0, 1, 1, 244, 0, 0, 0, 0, 4, 1, 244];
 const CHILD: [u8; 5] = [0, 0, 0, 3, 7];
 /// A leaf page of a table tree without a cell, and one with a cell at 500.
 const EMPTY: [u8; 8] = [13, 0, 0, 0, 0, 2, 0, 0];
+
 const LEAF: [u8; 10] = [13, 0, 0, 0, 1, 1, 244, 0, 1, 244];
 
 #[test]
@@ -110,7 +114,13 @@ fn a_page_by_itself(rt: HostRuntime) -> Result<(), Fail> {
 
 #[test]
 fn links_of_a_page(rt: HostRuntime) -> Result<(), Fail> {
-    for (child, at) in [(0, Err(2)), (25, Err(2)), (2, Err(2)), (4, Err(4)), (3, Ok(3))] {
+    for (child, at) in [
+        (0, Err(2)),
+        (25, Err(2)),
+        (2, Err(2)),
+        (4, Err(4)),
+        (3, Ok(3)),
+    ] {
         let cells = [
             (TWO, INNER.as_slice()),
             (TWO + 500, [0, 0, 0, child, 7].as_slice()),
@@ -148,7 +158,13 @@ fn a_leaf_is_as_deep_as_the_first(rt: HostRuntime) -> Result<(), Fail> {
 #[test]
 fn a_chain_is_as_long_as_needed(rt: HostRuntime) -> Result<(), Fail> {
     // A payload of 1000 bytes has 39 in its cell and the others on pages 3 and 4.
-    for (second, third, at) in [(4, 0, Ok(3)), (0, 0, Err(3)), (4, 5, Err(4)), (25, 0, Err(3)), (3, 0, Err(3))] {
+    for (second, third, at) in [
+        (4, 0, Ok(3)),
+        (0, 0, Err(3)),
+        (4, 5, Err(4)),
+        (25, 0, Err(3)),
+        (3, 0, Err(3)),
+    ] {
         let cells = [
             (TWO, [13, 0, 0, 0, 1, 1, 44, 0, 1, 44].as_slice()),
             (TWO + 300, [0x87, 0x68, 1].as_slice()),

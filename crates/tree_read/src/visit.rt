@@ -48,9 +48,7 @@ fn walk_page<D: Disk>(
     let below = levels - 1;
     match right {
         None => walk_leaf(pages, walk, kind, below, page, cells),
-        Some(right) => walk_inner(
-            alloc, pages, walk, table, below, limits, page, cells, right,
-        ),
+        Some(right) => walk_inner(alloc, pages, walk, table, below, limits, page, cells, right),
     }
 }
 

@@ -16,7 +16,7 @@ returns-clause-walk g c = λ nodes has.
     let mid = c.walk_overflow.new.walk in
     let links = overflow nodes c.args.kind c.args.cell.now in
     meets_on c.hold.result c.args.walk.now mid c.hold.new.self links (Holds c.args.place ∷ []) (c.in_ok-walk_overflow.ensures.walk nodes has)
-      (meets_one c.hold.result mid c.hold.new.self (Holds c.args.place) c.hold.ensures.walk)
+    (meets_one c.hold.result mid c.hold.new.self (Holds c.args.place) c.hold.ensures.walk)
 
 pub returns-clause-reads : goal.returns-clause-reads
 returns-clause-reads g c =

@@ -16,6 +16,6 @@ returns-in-Err-clause-node g c = λ nodes has.
     let bytes = c.loaded.result.now in
     let usable : nodes.usable ≡ c.shape-usable.result.usable = has.usable ∙ ap (λ (s : FileShape). s.usable) (sym c.shape-usable.ensures.shape) in
     let only : (kind : Kind) (found : PageCells) → HasCells bytes (page == 1) kind nodes.usable found → Yields IsMemory (λ f. f ≡ found) (Err c.in-Err.fault) =
-      λ kind found h. c.in-Err.ensures.only kind found (subst (λ (n : ℕ). HasCells bytes (page == 1) kind n found) usable h) in
+    λ kind found h. c.in-Err.ensures.only kind found (subst (λ (n : ℕ). HasCells bytes (page == 1) kind n found) usable h) in
     subst (λ (e : WalkError). AnswersNone page e (nodes.cells page)) (sym c.no_cells.ensures)
-      (answers_none nodes page bytes c.in-Err.fault (has.read page bytes c.loaded.ensures.bytes) only)
+    (answers_none nodes page bytes c.in-Err.fault (has.read page bytes c.loaded.ensures.bytes) only)

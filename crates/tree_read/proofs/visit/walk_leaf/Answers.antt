@@ -32,7 +32,7 @@ returns-in_err-walk_cell-clause-walk g c = λ nodes has.
     let e = c.in_err-walk_cell.field-0.0 in
     let before = nodes_before g.D.Disk c.loop-i.pages c.walk_cell.new.pages nodes c.in_err-walk_cell.ensures.reads.stay has in
     rw (p.1, p.2) (answers_same e _ _ (c.loop-i.invariant.walk nodes before)
-      (leaf_stops nodes c.args.kind c.args.page c.loop-i.i c.args.cells.now _ c.loop-i.walk e c.loop-i-test.true (c.in_err-walk_cell.ensures.walk nodes has)))
+    (leaf_stops nodes c.args.kind c.args.page c.loop-i.i c.args.cells.now _ c.loop-i.walk e c.loop-i-test.true (c.in_err-walk_cell.ensures.walk nodes has)))
 
 pub loop-i-preserved : goal.loop-i-preserved
 loop-i-preserved g c =
@@ -42,9 +42,9 @@ loop-i-preserved g c =
       stay = stay_on g.D.Disk c.args.pages.now c.loop-i.pages c.walk_cell.new.pages c.loop-i.invariant.stay reads.stay;
       faultless = reads.cause.only (λ is. cc) ∙ c.loop-i.invariant.faultless;
       walk = λ nodes has.
-        let before = nodes_before g.D.Disk c.loop-i.pages c.walk_cell.new.pages nodes reads.stay has in
-        c.loop-i.invariant.walk nodes before
-        ∙ leaf_goes_on nodes c.args.kind c.args.page c.loop-i.i c.args.cells.now _ c.loop-i.walk c.walk_cell.new.walk c.loop-i-test.true (c.in_ok-walk_cell.ensures.walk nodes has);
+          let before = nodes_before g.D.Disk c.loop-i.pages c.walk_cell.new.pages nodes reads.stay has in
+          c.loop-i.invariant.walk nodes before
+          ∙ leaf_goes_on nodes c.args.kind c.args.page c.loop-i.i c.args.cells.now _ c.loop-i.walk c.walk_cell.new.walk c.loop-i-test.true (c.in_ok-walk_cell.ensures.walk nodes has);
     }
 
 pub returns-clause-walk : goal.returns-clause-walk
