@@ -1,12 +1,12 @@
 -- The walk through a chain of overflow pages, a page at a time.
-use Rattle.std.proofs.Common.{◌≡◌, ◌≤◌, ◌<◌, ℕ, zero, suc, ◌-◌, Bool, true, false, if◌then◌else◌, List, [], ◌∷◌, Option, Some, None, refl, sym, ap, ◌∙◌, subst, arith}
+use Rattle.std.proofs.Common.{◌≡◌, ◌≤◌, ◌<◌, ℕ, zero, suc, ◌-◌, Bool, true, false, if◌then◌else◌, List, [], ◌∷◌, Option, Some, None, refl, sym, ap, ◌∙◌, arith}
 use Rattle.page_cells.specs.declared.kind.Kind.{Kind}
 use Rattle.page_cells.specs.declared.cell.Cell.{Cell}
 use Rattle.tree_read.specs.declared.error.WalkError.{WalkError}
 use Rattle.tree_read.specs.declared.error.WalkError.TheVariants.{Memory, Failed, Corrupt}
 use Rattle.tree_read.specs.Answers.{AnswersFault, AnswersLink}
 use Rattle.tree_read.specs.Nodes.{Nodes}
-use Rattle.tree_read.specs.Walk.{Done, Event, Fault, Found, Outcome, Walked, Wrong, chain, is_next, overflow, overflow_pages, run, step}
+use Rattle.tree_read.specs.Walk.{Done, Event, Fault, Found, Walked, Wrong, chain, is_next, overflow, overflow_pages, run, step}
 use Rattle.tree_read.proofs.Runs.{answers_step, goes_on_step, run-none, stops_step}
 
 -- behind the page, which has this link

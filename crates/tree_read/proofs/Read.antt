@@ -5,7 +5,7 @@ use Rattle.alter_disk.specs.declared.disk.Disk.{Ghosts}
 use Rattle.alter_disk.proofs.Moments.{reads_none, reads_on}
 use Rattle.pager_core.specs.declared.file_shape.FileShape.{FileShape}
 use Rattle.pager_core.specs.declared.pages.Pages.{Pages}
-use Rattle.pager_core.specs.Pages.{IsPage, StayAll, disk_of, shape_of}
+use Rattle.pager_core.specs.Pages.{IsPage, StayAll, disk_of}
 use Rattle.tree_read.specs.declared.error.WalkError.{WalkError}
 use Rattle.tree_read.specs.declared.error.WalkError.TheVariants.{Failed}
 use Rattle.common_laws.specs.Results.{Yields}

@@ -1,5 +1,5 @@
 -- Walks one behind the other.
-use Rattle.std.proofs.Common.{◌≡◌, ℕ, List, [], ◌∷◌, ◌++◌, refl, sym, ap, ◌∙◌, subst, Result, Ok, Err}
+use Rattle.std.proofs.Common.{◌≡◌, ℕ, List, [], ◌∷◌, ◌++◌, refl, sym, ap, ◌∙◌, subst, Result}
 use Rattle.tree_read.specs.declared.error.WalkError.{WalkError}
 use Rattle.tree_read.specs.declared.error.WalkError.TheVariants.{Memory, Failed, Corrupt}
 use Rattle.tree_read.specs.Answers.{AnswersFault, Meets}

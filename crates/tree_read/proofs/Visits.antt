@@ -13,9 +13,9 @@ use Rattle.tree_read.specs.declared.place.Limits.{Limits}
 use Rattle.tree_read.specs.declared.place.Place.{Place}
 use Rattle.tree_read.specs.Answers.{AnswersFault, AnswersNone, Meets}
 use Rattle.tree_read.specs.Node.{are_links, ascend, has_least, is_link, is_of, is_table, may_stand}
-use Rattle.tree_read.specs.Nodes.{Nodes, is_page}
-use Rattle.tree_read.specs.Walk.{ChildWalk, Done, Event, Fault, Found, Leaf, Outcome, Walked, Wrong, begun, below, between, child_by, child_part, children, children_by, held, is_free, is_table_at, leaf_cells, left_by, left_part, most_levels, no_limits, run, step, trace, unwalked, visit, walk_found, walk_tree, with_found}
-use Rattle.tree_read.proofs.Runs.{answers_front, answers_same, answers_step, goes_on, goes_on_step, meets_on, run-append, run-none, stops_step}
+use Rattle.tree_read.specs.Nodes.{Nodes}
+use Rattle.tree_read.specs.Walk.{ChildWalk, Done, Event, Fault, Found, Leaf, Walked, Wrong, begun, below, between, child_part, children, children_by, held, is_table_at, leaf_cells, left_by, left_part, most_levels, no_limits, run, step, trace, unwalked, visit, walk_found, walk_tree, with_found}
+use Rattle.tree_read.proofs.Runs.{answers_front, answers_same, answers_step, goes_on, goes_on_step, meets_on, run-none, stops_step}
 
 and_right : (a b : Bool) → a && b ≡ true → b ≡ true
 and_right true b is = is

@@ -26,12 +26,6 @@ pub record IsNode (nodes : Nodes) (n : ℕ) (bytes : List ℕ) : Type 0 where
   pub none : ((c : PageCells) → HasCells bytes (n == 1) c.kind nodes.usable c → ⊥) → nodes.cells n ≡ None
   pub next : nodes.next n ≡ big_number 4 bytes
 
--- the nodes of an image
-pub record AreNodesOf (size : ℕ) (image : List (List ℕ)) (nodes : Nodes) : Type 0 where
-  pub count : nodes.count ≡ length image
-  pub usable : nodes.usable ≡ size
-  pub pages : (n : ℕ) (bytes : List ℕ) → 1 ≤ n → slice_get image (n - 1) ≡ Some bytes → IsNode nodes n bytes
-
 -- the nodes of a file, as far as its pages were read
 pub record HasNodes {D : Type 0} (nodes : Nodes) (pages : Pages D) : Type 0 where
   pub count : nodes.count ≡ (shape_of pages).count

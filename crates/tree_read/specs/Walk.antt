@@ -1,9 +1,9 @@
 -- The order in which a tree is walked through, depth first in key order, and the first fault that a walk meets.
-use Rattle.std.specs.Prelude.{◌≡◌, ℕ, zero, suc, ◌+◌, ◌-◌, ◌/◌, ◌==◌, Bool, if◌then◌else◌, ℤ, replicate, List, [], ◌∷◌, ◌++◌, Option, Some, None, slice_index_or, slice_set, true, false}
+use Rattle.std.specs.Prelude.{ℕ, zero, suc, ◌+◌, ◌-◌, ◌==◌, Bool, if◌then◌else◌, ℤ, replicate, List, [], ◌∷◌, ◌++◌, Option, Some, None, slice_index_or, slice_set, true, false}
 use Rattle.std.specs.Int.{div_ceil}
 use Rattle.page_cells.specs.Layout.{local_payload}
 use Rattle.page_cells.specs.declared.kind.Kind.{Kind}
-use Rattle.page_cells.specs.declared.kind.Kind.TheVariants.{IndexInner, TableInner, IndexLeaf, TableLeaf}
+use Rattle.page_cells.specs.declared.kind.Kind.TheVariants.{IndexInner}
 use Rattle.page_cells.specs.declared.cell.Cell.{Cell}
 use Rattle.page_cells.specs.declared.cell.PageCells.{PageCells}
 use Rattle.tree_read.specs.declared.place.Limits.{Limits}

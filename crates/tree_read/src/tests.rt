@@ -64,6 +64,9 @@ const EMPTY: [u8; 8] = [13, 0, 0, 0, 0, 2, 0, 0];
 
 const LEAF: [u8; 10] = [13, 0, 0, 0, 1, 1, 244, 0, 1, 244];
 
+/// A leaf page of a table tree with a cell at 300.
+const LONG: [u8; 10] = [13, 0, 0, 0, 1, 1, 44, 0, 1, 44];
+
 #[test]
 fn a_tree_of_two_levels(rt: HostRuntime) -> Result<(), Fail> {
     let cells = [
@@ -83,13 +86,14 @@ fn a_tree_of_two_levels(rt: HostRuntime) -> Result<(), Fail> {
 #[test]
 fn rowids_stay_within_the_limits_of_their_parents(rt: HostRuntime) -> Result<(), Fail> {
     for (left, right, at) in [(7, 8, Ok(3)), (8, 9, Err(3)), (7, 7, Err(4))] {
+        let rows = ([0, left], [0, right]);
         let cells = [
             (TWO, INNER.as_slice()),
             (TWO + 500, CHILD.as_slice()),
             (THREE, LEAF.as_slice()),
-            (THREE + 500, [0, left].as_slice()),
+            (THREE + 500, rows.0.as_slice()),
             (FOUR, LEAF.as_slice()),
-            (FOUR + 500, [0, right].as_slice()),
+            (FOUR + 500, rows.1.as_slice()),
         ];
         assert_eq!(rt; answer(rt.alloc(), &cells)?, at);
     }
@@ -121,9 +125,10 @@ fn links_of_a_page(rt: HostRuntime) -> Result<(), Fail> {
         (4, Err(4)),
         (3, Ok(3)),
     ] {
+        let cell = [0, 0, 0, child, 7];
         let cells = [
             (TWO, INNER.as_slice()),
-            (TWO + 500, [0, 0, 0, child, 7].as_slice()),
+            (TWO + 500, cell.as_slice()),
             (THREE, EMPTY.as_slice()),
             (FOUR, EMPTY.as_slice()),
         ];
@@ -165,12 +170,13 @@ fn a_chain_is_as_long_as_needed(rt: HostRuntime) -> Result<(), Fail> {
         (25, 0, Err(3)),
         (3, 0, Err(3)),
     ] {
+        let links = ([0, 0, 0, 3], [0, 0, 0, second], [0, 0, 0, third]);
         let cells = [
-            (TWO, [13, 0, 0, 0, 1, 1, 44, 0, 1, 44].as_slice()),
+            (TWO, LONG.as_slice()),
             (TWO + 300, [0x87, 0x68, 1].as_slice()),
-            (TWO + 342, [0, 0, 0, 3].as_slice()),
-            (THREE, [0, 0, 0, second].as_slice()),
-            (FOUR, [0, 0, 0, third].as_slice()),
+            (TWO + 342, links.0.as_slice()),
+            (THREE, links.1.as_slice()),
+            (FOUR, links.2.as_slice()),
         ];
         assert_eq!(rt; answer(rt.alloc(), &cells)?, at);
     }

@@ -1,6 +1,5 @@
-use Rattle.std.proofs.Common.{◌≡◌, ℕ, true, false, refl, sym, ap, ◌∙◌, rules}
+use Rattle.std.proofs.Common.{◌≡◌, ℕ, refl, sym, ap, ◌∙◌}
 use Rattle.pager_core.specs.declared.file_shape.FileShape.{FileShape}
-use Rattle.tree_read.specs.Nodes.{HasNodes, Nodes}
 use Rattle.tree_read.specs.Walk as spec
 use Rattle.tree_read.proofs.chain.next_link.Goals as goal
 

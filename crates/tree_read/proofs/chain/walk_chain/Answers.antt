@@ -1,6 +1,5 @@
-use Rattle.std.proofs.Common.{◌≡◌, ℕ, ◌-◌, ◌∙◌, arith}
+use Rattle.std.proofs.Common.{◌∙◌, arith}
 use Rattle.std.proofs.lemmas.Result.{err_from_is_err_and}
-use Rattle.tree_read.specs.Walk.{chain, run}
 use Rattle.tree_read.proofs.Chains.{chain-none, chain_goes_on, chain_stops, link_stops}
 use Rattle.tree_read.proofs.Read.{nodes_before, reads_quiet, stay_on}
 use Rattle.tree_read.proofs.Runs.{answers_same}

@@ -1,4 +1,4 @@
-use Rattle.std.proofs.Common.{◌≡◌, ◌<◌, ℕ}
+use Rattle.std.proofs.Common.{◌≡◌, ◌<◌}
 use Rattle.pager_core.specs.Pages.{IsPage, StayAll, disk_of}
 use Rattle.tree_read.specs.Nodes.{HasNodes, Nodes}
 use Rattle.tree_read.specs.Walk.{chain, run}

@@ -1,7 +1,6 @@
-use Rattle.std.proofs.Common.{◌≡◌, ◌≤◌, ℕ, Bool, sym, ap, ap₂, ◌∙◌, arith}
+use Rattle.std.proofs.Common.{Bool, sym, ap, ap₂, ◌∙◌, arith}
 use Rattle.std.proofs.lemmas.Result.{err_from_is_err_and}
 use Rattle.pager_core.specs.declared.file_shape.FileShape.{FileShape}
-use Rattle.tree_read.specs.Nodes.{Nodes}
 use Rattle.tree_read.specs.Walk.{Walked, walk_tree}
 use Rattle.tree_read.proofs.Read.{nodes_before}
 use Rattle.tree_read.proofs.Runs.{answers_same}

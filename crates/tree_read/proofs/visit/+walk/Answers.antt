@@ -1,9 +1,8 @@
-use Rattle.std.proofs.Common.{◌≡◌, ◌≤◌, ℕ, ◌-◌, true, false, List, ◌∷◌, refl, sym, ap, ap₂, ◌∙◌, arith, rules}
+use Rattle.std.proofs.Common.{◌≡◌, ◌≤◌, ℕ, ◌-◌, true, List, ◌∷◌, refl, sym, ap, ap₂, ◌∙◌, arith, rules}
 use Rattle.page_cells.specs.declared.cell.Cell.{Cell}
 use Rattle.std.proofs.lemmas.Result.{err_from_is_err_and}
 use Rattle.pager_core.specs.Pages.{shape_of}
 use Rattle.tree_read.specs.Node.{are_links, may_stand}
-use Rattle.tree_read.specs.Nodes.{Nodes}
 use Rattle.tree_read.specs.Walk.{Leaf, children, leaf_cells, run, trace}
 use Rattle.tree_read.proofs.Read.{nodes_before, reads_quiet, stay_none, stay_on}
 use Rattle.tree_read.proofs.Runs.{answers_same, meets_same}

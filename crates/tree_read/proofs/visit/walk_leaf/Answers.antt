@@ -1,4 +1,4 @@
-use Rattle.std.proofs.Common.{◌≡◌, ℕ, ◌∙◌, refl, arith}
+use Rattle.std.proofs.Common.{◌∙◌, refl}
 use Rattle.std.proofs.lemmas.Result.{err_from_is_err_and}
 use Rattle.tree_read.specs.Walk.{Leaf, leaf_cells}
 use Rattle.tree_read.proofs.Read.{nodes_before, reads_quiet, stay_none, stay_on}
