@@ -1,4 +1,4 @@
-ghost use Rattle.std.specs.Prelude.{◌≡◌, ◌≤◌, true, IfOk};
+ghost use Rattle.std.specs.Prelude.{◌≡◌, true, IfOk};
 ghost use Rattle.pager_core.specs.Pages.{disk_of, shape_of};
 
 use crate::{WalkError, tree_pages};
@@ -13,19 +13,35 @@ const COUNT: u32 = 24;
 /// Bytes from a place of a file on.
 type Piece<'a> = (usize, &'a [u8]);
 
-/// A file of pages of 512 bytes, with pieces in it.
-fn file(alloc: Global, pieces: &[Piece]) -> Result<Pages<MemoryDisk>, Fail>
+/// Writes bytes from a place on.
+fn put(db: &mut Vec<u8>, at: usize, bytes: &[u8]) -> Result<(), Fail> {
+    let end = at.checked_add(bytes.len()).ok_or("no such place")?;
+    if end > db.len() {
+        return Err("no such place".into());
+    }
+    db[at..end].copy_from_slice(bytes);
+    Ok(())
+}
+
+/// A file of pages of 512 zeros.
+fn zeros(alloc: Global) -> Result<Vec<u8>, Fail> {
+    Ok(vec![in alloc; 0u8; COUNT as usize * 512]?)
+}
+
+/// Such a file with pieces in it.
+fn bytes(alloc: Global, pieces: &[Piece]) -> Result<Vec<u8>, Fail> {
+    let mut db = zeros(alloc)?;
+    for (at, piece) in pieces {
+        put(&mut db, *at, piece)?;
+    }
+    Ok(db)
+}
+
+/// The pages of a file.
+fn pages_of(alloc: Global, db: &[u8]) -> Result<Pages<MemoryDisk>, Fail>
     ensures { IfOk result (λ pages. ((disk_of pages).called ≡ true) × ((shape_of pages).count ≡ COUNT)) }
 {
-    let mut db = vec![in alloc; 0u8; COUNT as usize * 512]?;
-    for (at, bytes) in pieces {
-        let end = at.checked_add(bytes.len()).ok_or("no such place")?;
-        if end > db.len() {
-            return Err("no such place".into());
-        }
-        db[*at..end].copy_from_slice(bytes);
-    }
-    let mut disk = MemoryDisk::new(alloc, "a.db", db.as_slice(), b"", 1 << 16, 99, &[])?;
+    let mut disk = MemoryDisk::new(alloc, "a.db", db, b"", db.len(), 99, &[])?;
     disk.open("a.db")?;
     let shape = FileShape {
         page: 512,
@@ -37,13 +53,19 @@ fn file(alloc: Global, pieces: &[Piece]) -> Result<Pages<MemoryDisk>, Fail>
 }
 
 /// The page at fault in the tree at page 2, or the number of its pages.
-fn answer(alloc: Global, pieces: &[Piece]) -> Result<Result<usize, u32>, Fail> {
-    let mut pages = file(alloc, pieces)?;
+fn answer_of(alloc: Global, db: &[u8]) -> Result<Result<usize, u32>, Fail> {
+    let mut pages = pages_of(alloc, db)?;
     match tree_pages(alloc, &mut pages, 2) {
         Ok(found) => Ok(Ok(found.len())),
         Err(WalkError::Corrupt(page)) => Ok(Err(page)),
         Err(_) => Err("a fault of reading or of memory".into()),
     }
+}
+
+/// The same of a file with these pieces.
+fn answer(alloc: Global, pieces: &[Piece]) -> Result<Result<usize, u32>, Fail> {
+    let db = bytes(alloc, pieces)?;
+    answer_of(alloc, db.as_slice())
 }
 
 /// Where page 2 begins, and page 3, and so on.
@@ -77,7 +99,8 @@ fn a_tree_of_two_levels(rt: HostRuntime) -> Result<(), Fail> {
         (FOUR, LEAF.as_slice()),
         (FOUR + 500, [0, 8].as_slice()),
     ];
-    let mut pages = file(rt.alloc(), &cells)?;
+    let db = bytes(rt.alloc(), &cells)?;
+    let mut pages = pages_of(rt.alloc(), db.as_slice())?;
     let found = tree_pages(rt.alloc(), &mut pages, 2)?;
     assert_eq!(rt; found.as_slice(), [2, 3, 4].as_slice());
     Ok(())
@@ -185,15 +208,12 @@ fn a_chain_is_as_long_as_needed(rt: HostRuntime) -> Result<(), Fail> {
 
 #[test]
 fn a_page_deeper_than_twenty(rt: HostRuntime) -> Result<(), Fail> {
-    let mut pages = file(rt.alloc(), &[])?;
+    let mut db = zeros(rt.alloc())?;
     for page in 2..23u8 {
-        let child = [5, 0, 0, 0, 1, 1, 244, 0, 0, 0, 0, 24, 1, 244];
-        pages.change(u32::from(page), 0, &child)?;
-        pages.change(u32::from(page), 500, &[0, 0, 0, page + 1, 7])?;
+        let at = usize::from(page - 1) * 512;
+        put(&mut db, at, &INNER)?;
+        put(&mut db, at + 500, &[0, 0, 0, page + 1, 7])?;
     }
-    match tree_pages(rt.alloc(), &mut pages, 2) {
-        Err(WalkError::Corrupt(page)) => assert_eq!(rt; page, 22),
-        _ => assert!(rt; false, "a tree of 21 levels"),
-    }
+    assert_eq!(rt; answer_of(rt.alloc(), db.as_slice())?, Err(22));
     Ok(())
 }
