@@ -1,11 +1,10 @@
 -- The pages of a file, as a reader of its trees sees them.
-use Rattle.std.specs.Prelude.{◌≡◌, ◌≤◌, ℕ, ◌-◌, ◌==◌, nat_le, Bool, ◌&&◌, List, Option, Some, None, length}
+use Rattle.std.specs.Prelude.{◌≡◌, ℕ, ◌==◌, nat_le, Bool, ◌&&◌, List, Option, Some, None}
 use Rattle.byteorder.specs.Endian.{big_number}
 use Rattle.pager_core.specs.declared.pages.Pages.{Pages}
 use Rattle.pager_core.specs.Pages.{shape_of, shown}
 use Rattle.page_cells.specs.declared.cell.PageCells.{PageCells}
 use Rattle.page_cells.specs.Cells.{HasCells}
-use Rattle.std.specs.List.{slice_get}
 
 pub record Nodes : Type 0 where
   -- how many pages there are, and how many bytes of each are usable
