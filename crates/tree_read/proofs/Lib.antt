@@ -1,0 +1,4 @@
+pub mod Chains
+pub mod Read
+pub mod Runs
+pub mod Visits

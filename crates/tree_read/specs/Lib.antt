@@ -1,0 +1,4 @@
+pub mod Answers
+pub mod Node
+pub mod Nodes
+pub mod Walk
