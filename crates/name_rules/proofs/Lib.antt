@@ -1,0 +1,5 @@
+pub mod Identities
+pub mod Parts
+pub mod Ranks
+pub mod Renamed
+pub mod Stay
