@@ -3,3 +3,4 @@ pub mod Parts
 pub mod Ranks
 pub mod Renamed
 pub mod Stay
+pub mod Schema

@@ -3,4 +3,6 @@
 
 mod laws;
 
-pub use laws::{clash_tells, one_is_meant, uses_stay};
+pub use laws::{
+    added_stays, added_tells, clash_tells, one_is_meant, schema_stays, schema_tells, uses_stay,
+};
