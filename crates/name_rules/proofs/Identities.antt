@@ -3,19 +3,8 @@ use Rattle.std.proofs.Common.{◌≡◌, ◌==◌, ℕ, cond, ◌⊎◌, inl, in
 use Rattle.std.proofs.lemmas.Bool.{cases_Bool}
 use Rattle.std.specs.Cmp.Lexicographic.{pointwise, bytes_decides}
 use Rattle.name_scope.specs.declared.identity.Identity.{Identity}
+use Rattle.name_rules.specs.Identities.{numbers_of}
 use Rattle.name_scope.specs.declared.identity.Identity.TheVariants.{Object, Column, Rowid, Source, Cte, Result, Fixed}
-
--- the numbers of an identity, or none
-abbrev numbers : Option Identity → List ℕ
-numbers None = []
-numbers (Some (Object a)) = 0 ∷ a ∷ []
-numbers (Some (Column a n)) = 1 ∷ a ∷ n ∷ []
-numbers (Some (Rowid a)) = 2 ∷ a ∷ []
-numbers (Some (Source a p)) = 3 ∷ a ∷ p
-numbers (Some (Cte a p)) = 4 ∷ a ∷ p
-numbers (Some (Result a p i m)) = 5 ∷ a ∷ i ∷ m ∷ p
-numbers (Some (Fixed a None)) = 6 ∷ a ∷ []
-numbers (Some (Fixed a (Some k))) = 7 ∷ a ∷ k ∷ []
 
 abbrev first_or : List ℕ → ℕ
 first_or [] = 0
@@ -40,7 +29,7 @@ abbrev said : List ℕ → Option Identity
 said [] = None
 said (sort ∷ xs) = Some (identity_of sort xs)
 
-said_again : (x : Option Identity) → said (numbers x) ≡ x
+said_again : (x : Option Identity) → said (numbers_of x) ≡ x
 said_again None = refl
 said_again (Some (Object a)) = refl
 said_again (Some (Column a n)) = refl
@@ -54,7 +43,7 @@ said_again (Some (Fixed a (Some k))) = refl
 -- two identities, or none, are the same, or they are not
 pub same_or_not : (x y : Option Identity) → (x ≡ y) ⊎ (x ≡ y → ⊥)
 same_or_not x y =
-    elim (cases_Bool (pointwise nat_eq (numbers x) (numbers y))) [
-    | inl alike ↦ inl (sym (said_again x) ∙ ap said ((bytes_decides (numbers x) (numbers y)).0 alike) ∙ said_again y)
-    | inr apart ↦ inr (λ same. let alike = (bytes_decides (numbers x) (numbers y)).1 (ap numbers same) in absurd cc)
+    elim (cases_Bool (pointwise nat_eq (numbers_of x) (numbers_of y))) [
+    | inl alike ↦ inl (sym (said_again x) ∙ ap said ((bytes_decides (numbers_of x) (numbers_of y)).0 alike) ∙ said_again y)
+    | inr apart ↦ inr (λ same. let alike = (bytes_decides (numbers_of x) (numbers_of y)).1 (ap numbers_of same) in absurd cc)
     ]

@@ -1,8 +1,13 @@
 pub mod Added
 pub mod Asked
 pub mod Clash
+pub mod Expressions
+pub mod Identities
+pub mod Inner
 pub mod Joins
 pub mod Laws
+pub mod Levels
 pub mod Meaning
 pub mod Part
 pub mod Renaming
+pub mod World
