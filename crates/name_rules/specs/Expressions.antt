@@ -31,19 +31,10 @@ use Rattle.sql_expr.specs.declared.expr.InSet.{out-InSet}
 use Rattle.sql_expr.specs.declared.expr.Operand.{out-Operand}
 use Rattle.sql_expr.specs.declared.expr.InSet.TheOpen.{InSet-F, Operand-F, Postfix-F}
 use Rattle.name_rules.specs.Inner.{Inner, items_of, of_each, of_part}
+use Rattle.name_rules.specs.Told.{object_names, use_names}
 use Rattle.name_rules.specs.World.{Ask, Asking, Demand, Where}
 use Rattle.name_rules.specs.World.Asking.{ColumnUse as AColumnUse, Function, SourceName}
 use Rattle.name_rules.specs.World.Demand.{Asks}
-
--- the name tokens of a column-use
-abbrev pub use_names : ColumnUse → List Token
-use_names (ColumnUse'.One name) = name ∷ []
-use_names (ColumnUse'.Two table dot column) = table ∷ column ∷ []
-use_names (ColumnUse'.Three schema first_dot table second_dot column) = schema ∷ table ∷ column ∷ []
-
--- the name tokens of an object
-abbrev pub object_names : Object → List Token
-object_names x = option_map_or (λ pair. pair.first ∷ []) x.qualifier [] ++ x.name ∷ []
 
 module _ (inner : Inner) (w : Where) where
   abbrev pub of_term : Term Expr → List Demand

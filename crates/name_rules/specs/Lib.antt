@@ -10,4 +10,11 @@ pub mod Levels
 pub mod Meaning
 pub mod Part
 pub mod Renaming
+pub mod Selects
+pub mod Sources
+pub mod Statements
+pub mod Tables
+pub mod Texts
+pub mod Told
+pub mod Trees
 pub mod World

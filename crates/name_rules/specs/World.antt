@@ -78,26 +78,37 @@ pub record Ask : Type 0 where
   pub tokens : List Token
   pub levels : List (List Binding)
 
--- What a text demands: that a use is answered; that two numbers of columns are equal, at a token; that the columns of a view or a
--- WITH name are these; that no earlier column of the table has the name of this one, at its token.
+-- What a text demands.
 pub data Demand : Type 0 where
+  -- a use is answered
   Asks : Ask → Demand
+  -- two numbers of columns are equal; the token is the place of the fault
   Counts : Token → ℕ → ℕ → Demand
+  -- the columns of a table, a view or a WITH name are these
   Shows : Identity → List Shown → Demand
+  -- the rowid names of the object stand for this, or it has none
+  HasRowid : ℕ → Option Identity → Demand
+  -- the columns of the table's primary key are these
+  HasKey : ℕ → List Identity → Demand
+  -- no earlier column of the table, at its name token, has the name of this one
   IsNew : Token → List Token → Demand
+  -- the body of the WITH name has these source names; its own name may stand for these sources
+  HasBody : Identity → List Token → List Identity → Demand
 
--- the row of a text, the place of each of its tokens (its ordinal), and what each spells as a name
+-- the row of a text, the number of its tokens, the place of each (its ordinal), and what each spells as a name
 pub record Text : Type 0 where
   pub row : ℕ
+  pub size : ℕ
   pub place : Token → ℕ
   pub spelled : Token → List ℕ
 
--- what is told of each use by its row and place; the columns of each table, view and WITH name; and what the rowid names of a
--- table stand for, if it has them
+-- What is told of each use by its row and place; the columns of each table, view and WITH name; what the rowid names of the object
+-- of a row stand for, if it has them; and the columns of the primary key of the table of a row.
 pub record World : Type 0 where
   pub replies : ℕ → ℕ → Reply
   pub columns : Identity → List Shown
-  pub rowid : Identity → Option Identity
+  pub rowid : ℕ → Option Identity
+  pub key : ℕ → List Identity
 
 -- where an expression or a select stands: its levels for columns and those for source names, the nearest first
 pub record Where : Type 0 where
