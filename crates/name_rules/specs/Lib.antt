@@ -1,5 +1,7 @@
 pub mod Added
+pub mod Answers
 pub mod Asked
+pub mod Circles
 pub mod Clash
 pub mod Expressions
 pub mod Identities
@@ -8,8 +10,12 @@ pub mod Joins
 pub mod Laws
 pub mod Levels
 pub mod Meaning
+pub mod Moves
+pub mod Naming
 pub mod Part
 pub mod Renaming
+pub mod Resolved
+pub mod Schema
 pub mod Selects
 pub mod Sources
 pub mod Statements
@@ -17,4 +23,5 @@ pub mod Tables
 pub mod Texts
 pub mod Told
 pub mod Trees
+pub mod Valid
 pub mod World

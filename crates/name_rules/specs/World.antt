@@ -95,11 +95,12 @@ pub data Demand : Type 0 where
   -- the body of the WITH name has these source names; its own name may stand for these sources
   HasBody : Identity → List Token → List Identity → Demand
 
--- the row of a text, the number of its tokens, the place of each (its ordinal), and what each spells as a name
+-- The row of a text and the number of its tokens; of each token its place (its ordinal), its bytes, and the name that it spells.
 pub record Text : Type 0 where
   pub row : ℕ
   pub size : ℕ
   pub place : Token → ℕ
+  pub bytes : Token → List ℕ
   pub spelled : Token → List ℕ
 
 -- What is told of each use by its row and place; the columns of each table, view and WITH name; what the rowid names of the object
