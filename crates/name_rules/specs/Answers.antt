@@ -10,8 +10,8 @@ use Rattle.name_rules.specs.Joins.{IsPair}
 use Rattle.name_rules.specs.Meaning.{IsAnswer, Means}
 use Rattle.name_rules.specs.Naming.{Naming, Placed, binders_of, placed_in, seen_of, spelling_of}
 use Rattle.name_rules.specs.World.{Ask, Asking, Binding, Joined, Label, Reply, Text, World}
-use Rattle.name_rules.specs.World.Asking as asking
-use Rattle.name_rules.specs.World.Reply as reply
+use Rattle.name_rules.specs.World.Asking.{ColumnUse, NaturalWord, Parent, ParentColumn, Using}
+use Rattle.name_rules.specs.World.Reply.{Keys, Literal, Nothing, One, Pairs, Two, Unbound}
 
 -- the level of the right side of a join, and those of the sources to its left
 abbrev pub right_side : List (List Binding) → List (List Binding)
@@ -24,7 +24,7 @@ left_side (right ∷ left) = left
 
 -- what is told where a use means this binder
 abbrev pub one_of : Placed → Reply
-one_of p = reply.One p.1.source p.1.what p.1.name
+one_of p = One p.1.source p.1.what p.1.name
 
 -- the binder is this column of a source
 abbrev pub IsColumnOf : Seen → Joined → Type 0
@@ -58,7 +58,7 @@ module _ (rows : List Row) (naming : Naming) (world : World) (text : Text) where
   abbrev pub MeansTwo : Ask → Reply → Type 0
   MeansTwo a r =
       (left : Joined) × (right : Joined) × MeansColumn (left_side a.levels) (spelling_of text a) left
-      × MeansColumn (right_side a.levels) (spelling_of text a) right × (r ≡ reply.Two left right)
+      × MeansColumn (right_side a.levels) (spelling_of text a) right × (r ≡ Two left right)
 
   -- the two columns are a pair of the NATURAL
   abbrev IsPairOf : Ask → Joined × Joined → Type 0
@@ -68,25 +68,25 @@ module _ (rows : List Row) (naming : Naming) (world : World) (text : Text) where
 
   -- NATURAL denotes its pairs, in any order
   abbrev pub MeansPairs : Ask → Reply → Type 0
-  MeansPairs a r = (pairs : List (Joined × Joined)) × ((pair : Joined × Joined) → Contains pairs pair ↔ IsPairOf a pair) × (r ≡ reply.Pairs pairs)
+  MeansPairs a r = (pairs : List (Joined × Joined)) × ((pair : Joined × Joined) → Contains pairs pair ↔ IsPairOf a pair) × (r ≡ Pairs pairs)
 
   -- a name after REFERENCES, or in its list, that sees nothing is unbound
   abbrev pub IsUnbound : Ask → Reply → Type 0
-  IsUnbound a r = SeesNone a × (r ≡ reply.Unbound)
+  IsUnbound a r = SeesNone a × (r ≡ Unbound)
 
   -- the table after REFERENCES without a list means the columns of its primary key, too
   abbrev pub MeansKey : Ask → Reply → Type 0
   MeansKey a r =
-      (row : ℕ) × (source : Option Identity) × (label : Option Label) × MeansOne a (reply.One source (identity.Object row) label)
-      × (r ≡ reply.Keys (identity.Object row) (world.key row))
+      (row : ℕ) × (source : Option Identity) × (label : Option Label) × MeansOne a (One source (identity.Object row) label)
+      × (r ≡ Keys (identity.Object row) (world.key row))
 
   abbrev pub AnswersBy : Asking → Ask → Reply → Type 0
-  AnswersBy asking.ColumnUse a r = MeansOne a r ⊎ (HasLiteralForm a.tokens × SeesNone a × (r ≡ reply.Literal))
-  AnswersBy asking.Using a r = MeansTwo a r
-  AnswersBy asking.NaturalWord a r = MeansPairs a r
-  AnswersBy (asking.Parent true) a r = MeansOne a r ⊎ IsUnbound a r
-  AnswersBy (asking.Parent false) a r = MeansKey a r ⊎ IsUnbound a r
-  AnswersBy (asking.ParentColumn parent) a r = MeansOne a r ⊎ IsUnbound a r
+  AnswersBy ColumnUse a r = MeansOne a r ⊎ (HasLiteralForm a.tokens × SeesNone a × (r ≡ Literal))
+  AnswersBy Using a r = MeansTwo a r
+  AnswersBy NaturalWord a r = MeansPairs a r
+  AnswersBy (Parent true) a r = MeansOne a r ⊎ IsUnbound a r
+  AnswersBy (Parent false) a r = MeansKey a r ⊎ IsUnbound a r
+  AnswersBy (ParentColumn parent) a r = MeansOne a r ⊎ IsUnbound a r
   AnswersBy _ a r = MeansOne a r
 
   -- the use denotes what is told
@@ -95,4 +95,4 @@ module _ (rows : List Row) (naming : Naming) (world : World) (text : Text) where
 
   -- What is told of the use is right: it is what the use denotes, or Nothing where it denotes nothing.
   abbrev pub IsRightOf : Ask → Reply → Type 0
-  IsRightOf a r = Answers a r ⊎ ((r ≡ reply.Nothing) × ((other : Reply) → ¬ Answers a other))
+  IsRightOf a r = Answers a r ⊎ ((r ≡ Nothing) × ((other : Reply) → ¬ Answers a other))

@@ -18,7 +18,7 @@ use Rattle.name_rules.specs.Part.Part.{Name, Qualifier}
 use Rattle.name_rules.specs.Renaming.{Renaming}
 use Rattle.name_rules.specs.Schema.{Schema, demands_at, is_read, naming_of}
 use Rattle.name_rules.specs.World.{Ask, Asking, Binding, Demand, Label, Text, World}
-use Rattle.name_rules.specs.World.Asking as asking
+use Rattle.name_rules.specs.World.Asking.{ColumnUse, Function, IndexedBy, Listed, NaturalWord, Owner, Parent, ParentColumn, SourceName, StarSource, Using}
 use Rattle.name_rules.specs.World.Demand.{Asks}
 use Rattle.name_rules.specs.World.Label.{ColumnName, FixedName, ObjectName}
 
@@ -43,20 +43,20 @@ is_label _ _ = false
 
 -- what a use asks for
 abbrev pub question_of : Asking → Question
-question_of asking.ColumnUse = ForColumn
-question_of asking.Listed = ForColumn
-question_of asking.Using = ForColumn
-question_of asking.SourceName = ForObject
-question_of asking.Owner = ForObject
-question_of asking.StarSource = ForSource
+question_of ColumnUse = ForColumn
+question_of Listed = ForColumn
+question_of Using = ForColumn
+question_of SourceName = ForObject
+question_of Owner = ForObject
+question_of StarSource = ForSource
 question_of _ = ForOther
 
 -- whether such a use can clash: no name after REFERENCES or INDEXED BY can, and no table function
 abbrev pub may_clash : Asking → Bool
-may_clash (asking.Parent listed) = false
-may_clash (asking.ParentColumn parent) = false
-may_clash (asking.IndexedBy source) = false
-may_clash asking.Function = false
+may_clash (Parent listed) = false
+may_clash (ParentColumn parent) = false
+may_clash (IndexedBy source) = false
+may_clash Function = false
 may_clash _ = true
 
 -- The part of such a use that a renaming replaces, if it replaces one: of a table, the qualifier of a column and the name of an
@@ -132,13 +132,13 @@ module _ (schema : Schema) (world : World) where
 
   -- The use of a schema that is asked so: a name in USING has a target on each side, NATURAL the columns of both.
   abbrev pub IsUseBy : Asking → ℕ → Ask → SchemaUse → Type 0
-  IsUseBy asking.Using row a (TwoTargets left right) =
+  IsUseBy Using row a (TwoTargets left right) =
       IsAskedOf row a (seen_at (left_side a.levels)) left × IsAskedOf row a (seen_at (right_side a.levels)) right
-  IsUseBy asking.Using row a _ = ⊥
-  IsUseBy asking.NaturalWord row a (Natural spot left right) =
+  IsUseBy Using row a _ = ⊥
+  IsUseBy NaturalWord row a (Natural spot left right) =
       ((t : Token) → token_in Name a.tokens ≡ Some t → spot ≡ record { row = row; at = t.start })
       × (left ≡ seen_at (left_side a.levels)) × (right ≡ seen_at (right_side a.levels))
-  IsUseBy asking.NaturalWord row a _ = ⊥
+  IsUseBy NaturalWord row a _ = ⊥
   IsUseBy _ row a (OneTarget x) = IsAskedOf row a (map (seen_of (naming_of schema)) (binders_of schema.rows (schema.texts row) a)) x
   IsUseBy _ row a _ = ⊥
 

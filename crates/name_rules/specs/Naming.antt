@@ -10,7 +10,7 @@ use Rattle.name_scope.specs.declared.usage.UseKind.TheVariants as kind
 use Rattle.name_scope.specs.Rank.{Seen}
 use Rattle.name_scope.specs.Sees.{has_sources, kind_of, sees_object}
 use Rattle.name_rules.specs.World.{Ask, Asking, Binding, Label, Reply, Text}
-use Rattle.name_rules.specs.World.Asking as asking
+use Rattle.name_rules.specs.World.Asking.{Function, IndexedBy, Owner, Parent, SourceName}
 use Rattle.name_rules.specs.World.Label.{ColumnName, FixedName, ObjectName}
 use Rattle.name_rules.specs.World.Reply.{One}
 
@@ -60,11 +60,11 @@ placed_in depth (level ∷ outer) = map (λ b. (depth, b)) level ++ placed_in (d
 
 -- the objects that stand behind all levels, by what the use asks for
 abbrev pub kind_by : Asking → UseKind
-kind_by asking.SourceName = kind.Source
-kind_by asking.Function = kind.Function
-kind_by asking.Owner = kind.Owner
-kind_by (asking.IndexedBy (One source (identity.Object row) label)) = kind.Index row
-kind_by (asking.Parent listed) = kind.Parent
+kind_by SourceName = kind.Source
+kind_by Function = kind.Function
+kind_by Owner = kind.Owner
+kind_by (IndexedBy (One source (identity.Object row) label)) = kind.Index row
+kind_by (Parent listed) = kind.Parent
 kind_by _ = kind.Sighted
 
 -- an object as it stands there

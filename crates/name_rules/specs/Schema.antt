@@ -20,6 +20,7 @@ use Rattle.name_rules.specs.Tables.{declared}
 use Rattle.name_rules.specs.Texts.{demands_of}
 use Rattle.name_rules.specs.Told.{told}
 use Rattle.name_rules.specs.World.{Ask, Asking, Demand, Reply, Text, World}
+use Rattle.name_rules.specs.World.Reply.{Nothing}
 use Rattle.name_rules.specs.World.Demand.{Asks, Counts, HasBody, HasKey, HasRowid, IsNew, Shows}
 
 -- The rows of a schema, and of each row the tokens of its text, the text by them, and the tree that they spell, if there is one.
@@ -95,7 +96,7 @@ module _ (schema : Schema) where
     told_of row a = told_first a.tokens
       where
         told_first : List Token → Reply
-        told_first [] = Reply.Nothing
+        told_first [] = Nothing
         told_first (t ∷ more) = told (schema.texts row) world t
 
     -- the world is as the demand says
@@ -129,7 +130,7 @@ module _ (schema : Schema) where
 
     -- A fault of the text, at this token: a use denotes nothing, two numbers of columns differ, or a column's name stands again.
     abbrev pub IsFaultAt : ℕ → Demand → Token → Type 0
-    IsFaultAt row (Asks a) t = (told_of row a ≡ Reply.Nothing) × IsFirst a.tokens t
+    IsFaultAt row (Asks a) t = (told_of row a ≡ Nothing) × IsFirst a.tokens t
     IsFaultAt row (Counts at m n) t = (t ≡ at) × (m ≢ n)
     IsFaultAt row (IsNew at earlier) t = (t ≡ at) × IsAgain (schema.texts row) at earlier
     IsFaultAt row _ t = ⊥

@@ -41,7 +41,7 @@ module _ (text : Text) (world : World) (inner : Inner) where
   -- a source of which this is told at its name token
   abbrev pub origin_by : Token → Token → Option Alias → Reply → Origin
   origin_by start name alias reply = record {
-    source = source_at text start;
+    source = source_at text world start;
     name = option_map_or (λ a. Some (alias_label a)) alias (name_by text world reply name);
     columns = columns_by world reply;
     rowid = rowid_by world reply
@@ -54,7 +54,7 @@ module _ (text : Text) (world : World) (inner : Inner) where
   origins_of (TableSource-F.TableFunction name arguments alias) = origin_by name name alias (told text world name) ∷ []
   origins_of (TableSource-F.Derived select alias) =
       record {
-        source = source_at text select.opening;
+        source = source_at text world select.opening;
         name = option_map alias_label alias;
         columns = inner.shown select.inner;
         rowid = None
