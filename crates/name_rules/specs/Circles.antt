@@ -1,5 +1,5 @@
 -- What stands on itself.
-use Rattle.std.specs.Prelude.{◌≡◌, ℕ, ◌⊎◌, List, [], ◌∷◌, Contains, Option, Some, None}
+use Rattle.std.specs.Prelude.{◌≡◌, ℕ, ◌⊎◌, IsTrue, List, [], ◌∷◌, Contains, Option, Some, None}
 use Rattle.sql_token.specs.declared.token.Token.{Token}
 use Rattle.name_scope.specs.declared.identity.Identity.{Identity}
 use Rattle.name_scope.specs.declared.identity.Identity.TheVariants as identity

@@ -122,11 +122,11 @@ module _ (schema : Schema) (world : World) where
   seen_at levels = map (seen_of (naming_of schema)) (placed_in 0 levels)
 
   -- the use of these binders as it is asked
-  pub record IsAskedOf (row : ℕ) (a : Ask) (binders : List Seen) (x : Asked) : Type 0 where
+  pub record IsAskedOf (row : ℕ) (a : Ask) (standing : List Seen) (x : Asked) : Type 0 where
     pub question : x.question ≡ question_of a.asking
     pub spot : (part : Part) (t : Token) → token_in part a.tokens ≡ Some t → x.spot part ≡ record { row = row; at = t.start }
     pub spelling : x.spelling ≡ spelling_of (schema.texts row) a
-    pub binders : x.binders ≡ binders
+    pub binders : x.binders ≡ standing
     pub literal : IsTrue x.may_be_literal ↔ HasLiteralForm schema.rows (naming_of schema) world (schema.texts row) a.tokens
     pub right : IsRight x
 

@@ -1,5 +1,5 @@
 -- A schema as it is read, and what its world must be.
-use Rattle.std.specs.Prelude.{◌≡◌, ◌≤◌, ℕ, Bool, true, false, ◌&&◌, not, IsTrue, List, [], ◌∷◌, length, flat_map, slice_get, Contains, Option, Some, None, is_none}
+use Rattle.std.specs.Prelude.{◌≡◌, ◌≢◌, ◌⊎◌, ℕ, Bool, true, false, ◌&&◌, not, IsTrue, List, [], ◌∷◌, length, flat_map, slice_get, Contains, Option, Some, None, is_none}
 use Rattle.std.specs.Option.{option_map_or}
 use Rattle.sql_token.specs.declared.token.Token.{Token}
 use Rattle.sql_token.specs.Names.{SpellsName}
@@ -31,12 +31,12 @@ pub record Schema : Type 0 where
   pub trees : ℕ → Option Tree
 
 -- the text is told of these bytes and their tokens
-pub record IsTextOf (row : ℕ) (bytes : List ℕ) (tokens : List Token) (text : Text) : Type 0 where
-  pub row : text.row ≡ row
+pub record IsTextOf (rowid : ℕ) (sql : List ℕ) (tokens : List Token) (text : Text) : Type 0 where
+  pub row : text.row ≡ rowid
   pub size : text.size ≡ length tokens
   pub place : (n : ℕ) (t : Token) → slice_get tokens n ≡ Some t → text.place t ≡ n
-  pub bytes : (t : Token) → text.bytes t ≡ span bytes t
-  pub spelled : (t : Token) (name : List ℕ) → SpellsName bytes t name → text.spelled t ≡ name
+  pub bytes : (t : Token) → text.bytes t ≡ span sql t
+  pub spelled : (t : Token) (name : List ℕ) → SpellsName sql t name → text.spelled t ≡ name
 
 -- nothing is read of virtual tables and of indexes without a text
 abbrev pub is_read : Row → Bool
