@@ -1,5 +1,5 @@
 -- Whether two identities are one is decided: each is spelled by a list of numbers.
-use Rattle.std.proofs.Common.{◌≡◌, ◌==◌, ℕ, cond, ◌⊎◌, inl, inr, Bool, true, false, List, [], ◌∷◌, Option, Some, None, nat_eq, refl, sym, ap, ◌∙◌}
+use Rattle.std.proofs.Common.{◌≡◌, ◌==◌, ℕ, cond, ◌⊎◌, inl, inr, List, [], ◌∷◌, Option, Some, None, nat_eq, refl, sym, ap, ◌∙◌}
 use Rattle.std.proofs.lemmas.Bool.{cases_Bool}
 use Rattle.std.specs.Cmp.Lexicographic.{pointwise, bytes_decides}
 use Rattle.name_scope.specs.declared.identity.Identity.{Identity}
@@ -44,6 +44,6 @@ said_again (Some (Fixed a (Some k))) = refl
 pub same_or_not : (x y : Option Identity) → (x ≡ y) ⊎ (x ≡ y → ⊥)
 same_or_not x y =
     elim (cases_Bool (pointwise nat_eq (numbers_of x) (numbers_of y))) [
-    | inl alike ↦ inl (sym (said_again x) ∙ ap said ((bytes_decides (numbers_of x) (numbers_of y)).0 alike) ∙ said_again y)
-    | inr apart ↦ inr (λ same. let alike = (bytes_decides (numbers_of x) (numbers_of y)).1 (ap numbers_of same) in absurd cc)
+      | inl alike ↦ inl (sym (said_again x) ∙ ap said ((bytes_decides (numbers_of x) (numbers_of y)).0 alike) ∙ said_again y)
+      | inr apart ↦ inr (λ same. let alike = (bytes_decides (numbers_of x) (numbers_of y)).1 (ap numbers_of same) in absurd cc)
     ]

@@ -1,5 +1,5 @@
 -- A use sees a binder where the part fits and the rest does.
-use Rattle.std.proofs.Common.{◌≡◌, ℕ, Bool, true, false, ◌&&◌, not, List, [], ◌∷◌, Option, Some, None, option_map, codes, nat_eq, refl, sym, ap, ◌∙◌}
+use Rattle.std.proofs.Common.{◌≡◌, ℕ, Bool, true, false, ◌&&◌, not, List, [], ◌∷◌, Option, Some, None, option_map, codes, refl, sym, ◌∙◌}
 use Rattle.std.proofs.lemmas.Bool.{and_from, and_parts}
 use Rattle.std.proofs.lemmas.Cmp.{nat_list_eq_equiv}
 use Rattle.std.specs.Option.{option_map_or}
@@ -25,7 +25,7 @@ part_fits part own = option_map_or (λ p. is_named p own) part true
 
 -- a use that sees the binder: its part fits, and so does the rest
 pub seen_parts : (part : Part) (spelling : List (List ℕ)) (s : Sight) → is_seen spelling s ≡ true
-  → (rest_fits part spelling s ≡ true) × (part_fits (part_in part spelling) (part_of part s) ≡ true)
+    → (rest_fits part spelling s ≡ true) × (part_fits (part_in part spelling) (part_of part s) ≡ true)
 seen_parts Name [] s seen = absurd cc
 seen_parts Name (n ∷ []) s seen = and_parts (not s.qualified_only) (is_named n s.binder.name) seen
 seen_parts Name (q ∷ n ∷ []) s seen = and_parts (is_named q s.qualifier) (is_named n s.binder.name) seen
@@ -47,7 +47,7 @@ seen_parts Qualifier (a ∷ b ∷ c ∷ d ∷ e) s seen = absurd cc
 
 -- where its part fits and the rest does, the use sees the binder
 pub parts_seen : (part : Part) (spelling : List (List ℕ)) (s : Sight) → rest_fits part spelling s ≡ true
-  → part_fits (part_in part spelling) (part_of part s) ≡ true → is_seen spelling s ≡ true
+    → part_fits (part_in part spelling) (part_of part s) ≡ true → is_seen spelling s ≡ true
 parts_seen Name [] s rest fits = absurd cc
 parts_seen Name (n ∷ []) s rest fits = and_from (not s.qualified_only) (is_named n s.binder.name) rest fits
 parts_seen Name (q ∷ n ∷ []) s rest fits = and_from (is_named q s.qualifier) (is_named n s.binder.name) rest fits

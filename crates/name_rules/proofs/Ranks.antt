@@ -1,5 +1,5 @@
 -- Of two binders one is nearer or not, and never both.
-use Rattle.std.proofs.Common.{◌≡◌, ◌<◌, ◌≤◌, ℕ, ◌⊎◌, inl, inr, ⊎_elim, refl, sym, arith}
+use Rattle.std.proofs.Common.{◌≡◌, ◌<◌, ℕ, ◌⊎◌, inl, inr, ⊎_elim, arith}
 use Rattle.std.proofs.lemmas.Bool.{cases_eq, cases_lt}
 use Rattle.name_scope.specs.declared.level.Sight.{Sight}
 use Rattle.name_scope.specs.Rank.{IsNearer, Seen, StandsBefore}

@@ -1,15 +1,14 @@
 -- What stands, and is seen, behind a renaming.
-use Rattle.std.proofs.Common.{◌≡◌, ◌<◌, ℕ, ◌⊎◌, inl, inr, ⊎_elim, Bool, true, false, cond, List, [], ◌∷◌, map, Option, Some, None, option_map, refl, sym, ap, subst, ◌∙◌}
+use Rattle.std.proofs.Common.{◌≡◌, ℕ, inl, inr, ⊎_elim, true, false, cond, List, [], ◌∷◌, map, Option, Some, None, option_map, refl, sym, ap, subst, ◌∙◌}
 use Rattle.std.proofs.lemmas.Bool.{cases_Bool}
-use Rattle.std.specs.Option.{option_map_or}
 use Rattle.name_scope.specs.declared.level.Sight.{Sight}
-use Rattle.name_scope.specs.Rank.{IsNearer, Seen, StandsBefore}
+use Rattle.name_scope.specs.Rank.{IsNearer, Seen}
 use Rattle.name_scope.specs.Sees.{is_named, is_seen, same_names}
-use Rattle.name_rules.specs.Meaning.{IsAmong, Sees}
+use Rattle.name_rules.specs.Meaning.{IsAmong}
 use Rattle.name_rules.specs.Part.{Part, part_in, part_of, with_name, with_part}
 use Rattle.name_rules.specs.Part.Part.{Name, Qualifier}
 use Rattle.name_rules.specs.Renaming.{Renaming, is_moved, renamed}
-use Rattle.name_rules.proofs.Parts.{both_named, named_alike, part_fits, part_in-with_part, part_of-with_name, parts_seen, rest-with_name, rest-with_part, rest_fits, same_either, same_name, seen_parts}
+use Rattle.name_rules.proofs.Parts.{named_alike, part_fits, part_in-with_part, part_of-with_name, parts_seen, rest-with_name, rest-with_part, same_either, same_name, seen_parts}
 
 -- what stands there has its counterpart there
 pub among_renamed : (f : Seen → Seen) (binders : List Seen) (s : Seen) → IsAmong binders s → IsAmong (map f binders) (f s)
@@ -64,10 +63,10 @@ right_nearer Qualifier new s t near = near
 pub nearer_renamed : (r : Renaming) (s t : Seen) → IsNearer s t → IsNearer (renamed r s) (renamed r t)
 nearer_renamed r s t near =
     let left : IsNearer (renamed r s) t =
-      ⊎_elim
-      (λ moves. subst (λ x. IsNearer x t) (sym (moved r s moves)) (nearer_left r.part r.new s t near))
-      (λ stays. subst (λ x. IsNearer x t) (sym (unmoved r s stays)) near)
-      (cases_Bool (is_moved r s)) in
+    ⊎_elim
+    (λ moves. subst (λ x. IsNearer x t) (sym (moved r s moves)) (nearer_left r.part r.new s t near))
+    (λ stays. subst (λ x. IsNearer x t) (sym (unmoved r s stays)) near)
+    (cases_Bool (is_moved r s)) in
     ⊎_elim
     (λ moves. subst (λ x. IsNearer (renamed r s) x) (sym (moved r t moves)) (nearer_right r.part r.new (renamed r s) t left))
     (λ stays. subst (λ x. IsNearer (renamed r s) x) (sym (unmoved r t stays)) left)
@@ -77,10 +76,10 @@ nearer_renamed r s t near =
 pub nearer_before : (r : Renaming) (s t : Seen) → IsNearer (renamed r s) (renamed r t) → IsNearer s t
 nearer_before r s t near =
     let right : IsNearer (renamed r s) t =
-      ⊎_elim
-      (λ moves. right_nearer r.part r.new (renamed r s) t (subst (λ x. IsNearer (renamed r s) x) (moved r t moves) near))
-      (λ stays. subst (λ x. IsNearer (renamed r s) x) (unmoved r t stays) near)
-      (cases_Bool (is_moved r t)) in
+    ⊎_elim
+    (λ moves. right_nearer r.part r.new (renamed r s) t (subst (λ x. IsNearer (renamed r s) x) (moved r t moves) near))
+    (λ stays. subst (λ x. IsNearer (renamed r s) x) (unmoved r t stays) near)
+    (cases_Bool (is_moved r t)) in
     ⊎_elim
     (λ moves. left_nearer r.part r.new s t (subst (λ x. IsNearer x t) (moved r s moves) right))
     (λ stays. subst (λ x. IsNearer x t) (unmoved r s stays) right)
@@ -95,21 +94,20 @@ module _ (part : Part) (old new : List ℕ) (spelling : List (List ℕ)) (s : Si
 
   -- a use with the part that sees a binder of the new name has that name, and under the old one it saw it
   pub seen_with_part : (name : List ℕ) → part_in part spelling ≡ Some name → is_named old (part_of part s) ≡ true
-    → is_seen spelling (with_name part new s) ≡ true → (same_names name new ≡ true) × (is_seen (with_part part old spelling) s ≡ true)
+      → is_seen spelling (with_name part new s) ≡ true → (same_names name new ≡ true) × (is_seen (with_part part old spelling) s ≡ true)
   seen_with_part name has was seen =
       let parts = seen_parts part spelling (with_name part new s) seen in
       let fits : is_named name (Some new) ≡ true =
-        ap (λ own. is_named name own) (sym (part_of-with_name part new s)) ∙ ap (λ p. part_fits p (part_of part (with_name part new s))) (sym has) ∙ parts.1 in
-      (
+      ap (λ own. is_named name own) (sym (part_of-with_name part new s)) ∙ ap (λ p. part_fits p (part_of part (with_name part new s))) (sym has) ∙ parts.1 in (
         same_either name new ∙ fits,
         parts_seen part (with_part part old spelling) s
-        (rest-with_part part old spelling s ∙ sym (rest-with_name part new spelling s) ∙ parts.0)
-        (ap (λ p. part_fits p (part_of part s)) (part_in-with_part part old spelling ∙ ap (option_map (λ _. old)) has) ∙ was),
+            (rest-with_part part old spelling s ∙ sym (rest-with_name part new spelling s) ∙ parts.0)
+            (ap (λ p. part_fits p (part_of part s)) (part_in-with_part part old spelling ∙ ap (option_map (λ _. old)) has) ∙ was),
       )
 
   -- what a use of the new name would see under the old one it sees, once that one has the new name
   pub sees_renamed : (name : List ℕ) → part_in part spelling ≡ Some name → same_names name new ≡ true
-    → is_seen (with_part part old spelling) s ≡ true → is_seen spelling (with_name part new s) ≡ true
+      → is_seen (with_part part old spelling) s ≡ true → is_seen spelling (with_name part new s) ≡ true
   sees_renamed name has same seen =
       let parts = seen_parts part (with_part part old spelling) s seen in
       parts_seen part spelling (with_name part new s)
@@ -130,7 +128,7 @@ module _ (part : Part) (old new : List ℕ) (spelling : List (List ℕ)) (s : Si
 
   -- and what it sees so it saw, where it had the old name
   pub both_before : is_named old (part_of part s) ≡ true → part_fits (part_in part spelling) (Some old) ≡ true
-    → is_seen (with_part part new spelling) (with_name part new s) ≡ true → is_seen spelling s ≡ true
+      → is_seen (with_part part new spelling) (with_name part new s) ≡ true → is_seen spelling s ≡ true
   both_before was has_old seen =
       let parts = seen_parts part (with_part part new spelling) (with_name part new s) seen in
       parts_seen part spelling s

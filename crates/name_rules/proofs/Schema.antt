@@ -1,11 +1,9 @@
 -- The laws of all uses of a schema, and of an added column.
-use Rattle.std.proofs.Common.{◌≡◌, ℕ, ◌⊎◌, inl, inr, ⊎_elim, List, [], ◌∷◌, Option, Some, None, option_map, refl, sym, ap, subst, ◌∙◌}
-use Rattle.std.specs.List.{AllByRecursion}
-use Rattle.name_scope.specs.Rank.{IsInReach, IsNearer, Seen}
-use Rattle.name_rules.specs.Added.{AddedCaptures, AreAdded}
-use Rattle.name_rules.specs.Asked.{AreNamed, Asked, AskedClashes, IsRight, Met, asked_behind}
+use Rattle.std.proofs.Common.{◌≡◌, inr, ⊎_elim, [], ◌∷◌, Option, Some, None, option_map, refl, sym, subst}
+use Rattle.name_scope.specs.Rank.{Seen}
+use Rattle.name_rules.specs.Asked.{AreNamed, Asked, AskedClashes, IsRight, asked_behind}
 use Rattle.name_rules.specs.Laws.{AddedStays, AddedTells, SchemaStays, SchemaTells}
-use Rattle.name_rules.specs.Meaning.{IsAmong, IsAnswer, Means, Sees}
+use Rattle.name_rules.specs.Meaning.{IsAmong}
 use Rattle.name_rules.specs.Renaming.{Renaming, renamed}
 use Rattle.name_rules.proofs.Ranks.{nearer_or_not}
 use Rattle.name_rules.proofs.Stay.{clashes_tell, uses_stay}
@@ -19,7 +17,7 @@ one_stays : (met : Option Renaming) (a : Asked) → AreNamed met a → IsRight a
 one_stays None a named right free = right
 one_stays (Some r) a named right free = record {
   meant = uses_stay r a.binders a.spelling a.answer named right.meant free;
-  literal = λ none. right.literal (none_before r a.answer none)
+  literal = λ none. right.literal (none_before r a.answer none);
 }
 
 one_tells : (met : Option Renaming) (a : Asked) → AreNamed met a → IsRight a → IsRight (asked_behind met a) → AskedClashes met a → ⊥
@@ -37,22 +35,22 @@ schema_tells met (a ∷ uses) named right still = (one_tells (met a.question) a 
 pub added_stays : AddedStays
 added_stays before new after spelling None are nothing free =
     λ s there seen.
-      ⊎_elim
-      (λ old. nothing s old seen)
-      (λ one. free (record { other = s; added = one; seen = seen; in_reach = tt }))
-      (are.only s there)
+    ⊎_elim
+    (λ old. nothing s old seen)
+    (λ one. free (record { other = s; added = one; seen = seen; in_reach = tt }))
+    (are.only s there)
 added_stays before new after spelling (Some t) are means free = record {
   stands = are.kept t means.stands;
   seen = means.seen;
   nearest = λ s there seen.
-    ⊎_elim
-    (λ old. means.nearest s old seen)
-    (λ one.
+      ⊎_elim
+      (λ old. means.nearest s old seen)
+      (λ one.
       ⊎_elim
       (λ near. inr near)
       (λ no. absurd (free (record { other = s; added = one; seen = seen; in_reach = no })))
       (nearer_or_not t s))
-    (are.only s there)
+      (are.only s there);
 }
 
 pub added_tells : AddedTells

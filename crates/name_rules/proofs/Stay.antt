@@ -1,8 +1,8 @@
 -- A use that does not clash means behind the renaming the counterpart of what it meant, and one that clashes does not.
-use Rattle.std.proofs.Common.{◌≡◌, ℕ, ◌⊎◌, inl, inr, ⊎_elim, Bool, true, false, cond, List, [], ◌∷◌, map, Option, Some, None, IsSome, option_map, refl, sym, ap, subst, ◌∙◌}
+use Rattle.std.proofs.Common.{◌≡◌, ℕ, ◌⊎◌, inl, inr, ⊎_elim, true, false, cond, List, [], ◌∷◌, map, Option, Some, None, IsSome, option_map, refl, sym, ap, subst, ◌∙◌}
 use Rattle.std.proofs.lemmas.Bool.{cases_Bool}
 use Rattle.name_scope.specs.Rank.{IsInReach, IsNearer, Seen}
-use Rattle.name_scope.specs.Sees.{is_named, is_seen, same_names}
+use Rattle.name_scope.specs.Sees.{is_named, is_seen}
 use Rattle.name_rules.specs.Clash.{Clashes, MovedIsCaptured, StayingIsCaptured, Stays}
 use Rattle.name_rules.specs.Laws.{ClashesTell, UsesStay}
 use Rattle.name_rules.specs.Meaning.{IsAmong, IsAnswer, Means, Sees}
@@ -32,7 +32,7 @@ farther t s out = ⊎_elim (λ near. near) (λ no. absurd (out no)) (nearer_or_n
 
 -- the part of a spelling that sees a binder of the old name is the old name
 part_is_old : (part : Part) (old : List ℕ) (spelling : List (List ℕ)) (t : Seen) → is_named old (part_of part t.1) ≡ true → Sees spelling t
-  → part_fits (part_in part spelling) (Some old) ≡ true
+    → part_fits (part_in part spelling) (Some old) ≡ true
 part_is_old part old spelling t was seen = by (part_in part spelling) (seen_parts part spelling t.1 seen).1
   where
     by : (o : Option (List ℕ)) → part_fits o (part_of part t.1) ≡ true → part_fits o (Some old) ≡ true
@@ -42,7 +42,7 @@ part_is_old part old spelling t was seen = by (part_in part spelling) (seen_part
 module _ (r : Renaming) (binders : List Seen) (spelling : List (List ℕ)) (named : HasOldNames r binders) where
   -- what a use that stays sees behind the renaming it saw, or it is not in reach
   staying_sees : (answer : Option Seen) → Stays r answer → (StayingIsCaptured r binders spelling answer → ⊥)
-    → (s : Seen) → IsAmong binders s → Sees spelling (renamed r s) → Sees spelling s ⊎ (IsInReach answer s → ⊥)
+      → (s : Seen) → IsAmong binders s → Sees spelling (renamed r s) → Sees spelling s ⊎ (IsInReach answer s → ⊥)
   staying_sees answer stays free s there seen =
       ⊎_elim
       (λ moves. by moves (part_in r.part spelling) refl (subst (Sees spelling) (moved r s moves) seen))
@@ -50,17 +50,25 @@ module _ (r : Renaming) (binders : List Seen) (spelling : List (List ℕ)) (name
       (cases_Bool (is_moved r s))
     where
       by : is_moved r s ≡ true → (o : Option (List ℕ)) → part_in r.part spelling ≡ o → is_seen spelling (with_name r.part r.new s.1) ≡ true
-        → Sees spelling s ⊎ (IsInReach answer s → ⊥)
+          → Sees spelling s ⊎ (IsInReach answer s → ⊥)
       by moves None none sees = inl (seen_without_part r.part r.old r.new spelling s.1 none sees)
       by moves (Some name) has sees =
           let both = seen_with_part r.part r.old r.new spelling s.1 name has (named s there moves) sees in
           inr (λ reach. free (record {
-            stays = stays; name = name; part = has; has_new_name = both.0; other = s; stands = there; moves = moves; seen = both.1; in_reach = reach
+            stays = stays;
+            name = name;
+            part = has;
+            has_new_name = both.0;
+            other = s;
+            stands = there;
+            moves = moves;
+            seen = both.1;
+            in_reach = reach;
           }))
 
   -- what a use that moves sees behind the renaming it saw, or it is not in reach
   moving_sees : (t : Seen) → Means binders spelling t → is_moved r t ≡ true → (MovedIsCaptured r binders spelling t → ⊥)
-    → (s : Seen) → IsAmong binders s → Sees (with_part r.part r.new spelling) (renamed r s) → Sees spelling s ⊎ (IsInReach (Some t) s → ⊥)
+      → (s : Seen) → IsAmong binders s → Sees (with_part r.part r.new spelling) (renamed r s) → Sees spelling s ⊎ (IsInReach (Some t) s → ⊥)
   moving_sees t means moves free s there seen =
       ⊎_elim
       (λ too. inl (both_before r.part r.old r.new spelling s.1 (named s there too) old_part (subst (Sees (with_part r.part r.new spelling)) (moved r s too) seen)))
@@ -71,56 +79,62 @@ module _ (r : Renaming) (binders : List Seen) (spelling : List (List ℕ)) (name
       old_part = part_is_old r.part r.old spelling t (named t means.stands moves) means.seen
 
       by : is_moved r s ≡ false → (o : Option (List ℕ)) → part_in r.part spelling ≡ o → Sees (with_part r.part r.new spelling) s
-        → Sees spelling s ⊎ (IsInReach (Some t) s → ⊥)
+          → Sees spelling s ⊎ (IsInReach (Some t) s → ⊥)
       by still None none sees = inl (subst (λ x. Sees x s) (without_part r.part r.new spelling none) sees)
       by still (Some name) has sees =
           inr (λ reach. free (record {
-            moves = moves; has_part = subst IsSome (sym has) refl; other = s; stands = there; stays = still; seen = sees; in_reach = reach
+            moves = moves;
+            has_part = subst IsSome (sym has) refl;
+            other = s;
+            stands = there;
+            stays = still;
+            seen = sees;
+            in_reach = reach;
           }))
 
   -- where what is seen behind the renaming was seen or is not in reach, the counterpart is meant
   still_means : (t : Seen) (after : List (List ℕ)) → Means binders spelling t → Sees after (renamed r t)
-    → ((s : Seen) → IsAmong binders s → Sees after (renamed r s) → Sees spelling s ⊎ (IsInReach (Some t) s → ⊥))
-    → Means (map (renamed r) binders) after (renamed r t)
+      → ((s : Seen) → IsAmong binders s → Sees after (renamed r s) → Sees spelling s ⊎ (IsInReach (Some t) s → ⊥))
+      → Means (map (renamed r) binders) after (renamed r t)
   still_means t after means seen sees = record {
     stands = among_renamed (renamed r) binders t means.stands;
     seen = seen;
     nearest = λ s there now.
-      let (before, was_there, same) = among_before (renamed r) binders s there in
-      let now_seen : Sees after (renamed r before) = subst (Sees after) same now in
-      let behind : (renamed r before ≡ renamed r t) ⊎ IsNearer (renamed r t) (renamed r before) =
+        let (before, was_there, same) = among_before (renamed r) binders s there in
+        let now_seen : Sees after (renamed r before) = subst (Sees after) same now in
+        let behind : (renamed r before ≡ renamed r t) ⊎ IsNearer (renamed r t) (renamed r before) =
         ⊎_elim
         (λ was_seen.
-          ⊎_elim (λ one. inl (ap (renamed r) one)) (λ near. inr (nearer_renamed r t before near)) (means.nearest before was_there was_seen))
+        ⊎_elim (λ one. inl (ap (renamed r) one)) (λ near. inr (nearer_renamed r t before near)) (means.nearest before was_there was_seen))
         (λ out. inr (nearer_renamed r t before (farther t before out)))
         (sees before was_there now_seen) in
-      subst (λ x. (x ≡ renamed r t) ⊎ IsNearer (renamed r t) x) (sym same) behind
+        subst (λ x. (x ≡ renamed r t) ⊎ IsNearer (renamed r t) x) (sym same) behind;
   }
 
   -- the answer of a use that does not clash
   answer_stays : (answer : Option Seen) → IsAnswer binders spelling answer → (Clashes r binders spelling answer → ⊥)
-    → IsAnswer (map (renamed r) binders) (respelled r spelling answer) (option_map (renamed r) answer)
+      → IsAnswer (map (renamed r) binders) (respelled r spelling answer) (option_map (renamed r) answer)
   answer_stays None nothing free = λ s there seen.
       let (before, was_there, same) = among_before (renamed r) binders s there in
       ⊎_elim (nothing before was_there) (λ out. out tt) (staying_sees None tt free before was_there (subst (Sees spelling) same seen))
   answer_stays (Some t) means free =
       ⊎_elim
       (λ moves.
-        let after = with_part r.part r.new spelling in
-        subst (λ b. Means (map (renamed r) binders) (cond b after spelling) (renamed r t)) (sym moves)
-        (still_means t after means
-          (subst (Sees after) (sym (moved r t moves)) (both_renamed r.part r.old r.new spelling t.1 means.seen))
-          (moving_sees t means moves (λ captured. free (inl captured)))))
+      let after = with_part r.part r.new spelling in
+      subst (λ b. Means (map (renamed r) binders) (cond b after spelling) (renamed r t)) (sym moves)
+      (still_means t after means
+      (subst (Sees after) (sym (moved r t moves)) (both_renamed r.part r.old r.new spelling t.1 means.seen))
+      (moving_sees t means moves (λ captured. free (inl captured)))))
       (λ stays.
-        subst (λ b. Means (map (renamed r) binders) (cond b (with_part r.part r.new spelling) spelling) (renamed r t)) (sym stays)
-        (still_means t spelling means
-          (subst (Sees spelling) (sym (unmoved r t stays)) means.seen)
-          (staying_sees (Some t) stays (λ captured. free (inr captured)))))
+      subst (λ b. Means (map (renamed r) binders) (cond b (with_part r.part r.new spelling) spelling) (renamed r t)) (sym stays)
+      (still_means t spelling means
+      (subst (Sees spelling) (sym (unmoved r t stays)) means.seen)
+      (staying_sees (Some t) stays (λ captured. free (inr captured)))))
       (cases_Bool (is_moved r t))
 
   -- what is in reach, moves otherwise and is seen behind the renaming, leaves no meaning
   no_meaning : (t other : Seen) (after : List (List ℕ)) → IsAmong binders other → (is_moved r other ≡ is_moved r t → ⊥) → IsInReach (Some t) other
-    → Sees after (renamed r other) → Means (map (renamed r) binders) after (renamed r t) → ⊥
+      → Sees after (renamed r other) → Means (map (renamed r) binders) after (renamed r t) → ⊥
   no_meaning t other after there apart reach seen means =
       ⊎_elim
       (λ one. apart (sym (moved_alike r other) ∙ ap (is_moved r) one ∙ moved_alike r t))
@@ -129,7 +143,7 @@ module _ (r : Renaming) (binders : List Seen) (spelling : List (List ℕ)) (name
 
   -- the answer of a use that clashes
   clash_changes : (answer : Option Seen) → IsAnswer binders spelling answer → Clashes r binders spelling answer
-    → IsAnswer (map (renamed r) binders) (respelled r spelling answer) (option_map (renamed r) answer) → ⊥
+      → IsAnswer (map (renamed r) binders) (respelled r spelling answer) (option_map (renamed r) answer) → ⊥
   clash_changes None nothing k still =
       still (renamed r k.other) (among_renamed (renamed r) binders k.other k.stands)
       (subst (Sees spelling) (sym (moved r k.other k.moves)) (sees_renamed r.part r.old r.new spelling k.other.1 k.name k.part k.has_new_name k.seen))

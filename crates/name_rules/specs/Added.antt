@@ -1,7 +1,7 @@
 -- The clash of an added column: which uses would see one of its binders.
-use Rattle.std.specs.Prelude.{◌≡◌, ℕ, IsTrue, ◌⊎◌, List, ◌++◌, Option, Some, None}
+use Rattle.std.specs.Prelude.{ℕ, ◌⊎◌, List, Option}
 use Rattle.name_scope.specs.Rank.{IsInReach, Seen}
-use Rattle.name_rules.specs.Meaning.{IsAmong, IsAnswer, Sees}
+use Rattle.name_rules.specs.Meaning.{IsAmong, Sees}
 
 -- The binders behind it are those before it and the new ones, in any order; none is both.
 pub record AreAdded (before new after : List Seen) : Type 0 where

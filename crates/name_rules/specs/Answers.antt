@@ -1,5 +1,5 @@
 -- What a use denotes: which reply to it is right.
-use Rattle.std.specs.Prelude.{◌≡◌, ◌↔◌, ℕ, Bool, true, false, ◌⊎◌, List, [], ◌∷◌, map, Option, Some, None, Contains}
+use Rattle.std.specs.Prelude.{◌≡◌, ◌↔◌, ℕ, true, false, ◌⊎◌, List, [], ◌∷◌, map, Option, Some, None, Contains}
 use Rattle.sql_token.specs.declared.token.Token.{Token}
 use Rattle.name_scope.specs.declared.identity.Identity.{Identity}
 use Rattle.name_scope.specs.declared.identity.Identity.TheVariants as identity

@@ -1,8 +1,7 @@
 -- The uses of a schema as they are asked, each with all binders where it stands, and the first clash among them.
-use Rattle.std.specs.Prelude.{◌≡◌, ◌<◌, ◌≤◌, ℕ, Bool, true, false, IsTrue, ◌⊎◌, List, [], ◌∷◌, map, Option, Some, None, option_map}
-use Rattle.std.specs.List.{AllByRecursion}
+use Rattle.std.specs.Prelude.{◌≡◌, ◌<◌, ℕ, Bool, IsTrue, ◌⊎◌, List, [], ◌∷◌, map, Option, Some, None, option_map}
 use Rattle.name_scope.specs.Rank.{Seen}
-use Rattle.name_rules.specs.Clash.{Clashes, MovedIsCaptured, StayingIsCaptured}
+use Rattle.name_rules.specs.Clash.{Clashes}
 use Rattle.name_rules.specs.Joins.{IsSplit, PairsClash}
 use Rattle.name_rules.specs.Meaning.{IsAnswer}
 use Rattle.name_rules.specs.Part.{Part}
@@ -52,7 +51,7 @@ asked_behind None a = a
 asked_behind (Some r) a = record a {
   spelling = respelled r a.spelling a.answer;
   binders = map (renamed r) a.binders;
-  answer = option_map (renamed r) a.answer
+  answer = option_map (renamed r) a.answer;
 }
 
 -- each binder that moves has the old name

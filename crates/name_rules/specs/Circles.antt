@@ -1,16 +1,15 @@
 -- What stands on itself.
-use Rattle.std.specs.Prelude.{◌≡◌, ℕ, ◌⊎◌, IsTrue, List, [], ◌∷◌, Contains, Option, Some, None}
+use Rattle.std.specs.Prelude.{◌≡◌, ℕ, ◌⊎◌, IsTrue, List, [], ◌∷◌, Contains, Option}
 use Rattle.sql_token.specs.declared.token.Token.{Token}
 use Rattle.name_scope.specs.declared.identity.Identity.{Identity}
 use Rattle.name_scope.specs.declared.identity.Identity.TheVariants as identity
 use Rattle.name_scope.specs.declared.row.Row.{Row}
 use Rattle.name_scope.specs.declared.row.RowKind.TheVariants as kind
 use Rattle.name_rules.specs.Answers.{IsRightOf}
-use Rattle.name_rules.specs.Naming.{Naming}
 use Rattle.name_rules.specs.Schema.{Schema, demands_at, is_read, naming_of, told_of}
 use Rattle.name_rules.specs.Selects.{source_names}
 use Rattle.name_rules.specs.Told.{source_at, told}
-use Rattle.name_rules.specs.World.{Ask, Asking, Demand, Label, Reply, World}
+use Rattle.name_rules.specs.World.{Ask, Label, World}
 use Rattle.name_rules.specs.World.Asking.{SourceName}
 use Rattle.name_rules.specs.World.Demand.{Asks, HasBody}
 use Rattle.name_rules.specs.World.Reply.{One}

@@ -1,5 +1,5 @@
 -- The clash of a renaming at one use, said of the binders before it.
-use Rattle.std.specs.Prelude.{◌≡◌, ℕ, Bool, true, false, IsTrue, ◌⊎◌, List, Option, Some, None, IsSome}
+use Rattle.std.specs.Prelude.{◌≡◌, ℕ, false, IsTrue, ◌⊎◌, List, Option, Some, None, IsSome}
 use Rattle.name_scope.specs.Rank.{IsInReach, Seen}
 use Rattle.name_scope.specs.Sees.{same_names}
 use Rattle.name_rules.specs.Meaning.{IsAmong, Sees}

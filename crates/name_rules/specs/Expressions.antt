@@ -1,12 +1,8 @@
 -- What an expression demands. All its uses stand where it does; those of its subqueries stand around it.
-use Rattle.std.specs.Prelude.{ℕ, Bool, true, false, List, [], ◌∷◌, ◌++◌, map, flat_map, Option, Some, None, option_and_then}
-use Rattle.std.specs.Option.{option_map_or}
+use Rattle.std.specs.Prelude.{Bool, true, false, List, [], ◌∷◌, ◌++◌, flat_map, Option, Some, None}
 use Rattle.sql_token.specs.declared.token.Token.{Token}
 use Rattle.sql_expr.specs.Levels.{OpenInSet, OpenOperand, OpenPostfix}
-use Rattle.sql_expr.specs.declared.lists.Commas.{Commas}
-use Rattle.sql_expr.specs.declared.lists.InParens.{InParens}
 use Rattle.sql_expr.specs.declared.names.ColumnUse.{ColumnUse}
-use Rattle.sql_expr.specs.declared.names.ColumnUse.TheVariants as ColumnUse'
 use Rattle.sql_expr.specs.declared.names.Object.{Object}
 use Rattle.sql_expr.specs.declared.window.Term.{Term}
 use Rattle.sql_expr.specs.declared.window.Bound.{Bound}
@@ -24,15 +20,15 @@ use Rattle.sql_expr.specs.declared.call.Case.{Case}
 use Rattle.sql_expr.specs.declared.call.RaiseAction.{RaiseAction}
 use Rattle.sql_expr.specs.declared.call.RaiseAction.TheVariants as RaiseAction'
 use Rattle.sql_expr.specs.declared.expr.Expr.{Expr, out-Expr}
-use Rattle.sql_expr.specs.declared.expr.InfixPart.{InfixPart, out-InfixPart}
+use Rattle.sql_expr.specs.declared.expr.InfixPart.{out-InfixPart}
 use Rattle.sql_expr.specs.declared.expr.Part.{Part, out-Part}
 use Rattle.sql_expr.specs.declared.expr.Postfix.{Postfix, out-Postfix}
 use Rattle.sql_expr.specs.declared.expr.InSet.{out-InSet}
 use Rattle.sql_expr.specs.declared.expr.Operand.{out-Operand}
 use Rattle.sql_expr.specs.declared.expr.InSet.TheOpen.{InSet-F, Operand-F, Postfix-F}
-use Rattle.name_rules.specs.Inner.{Inner, items_of, of_each, of_part}
+use Rattle.name_rules.specs.Inner.{Inner, of_each, of_part}
 use Rattle.name_rules.specs.Told.{object_names, use_names}
-use Rattle.name_rules.specs.World.{Ask, Asking, Demand, Where}
+use Rattle.name_rules.specs.World.{Demand, Where}
 use Rattle.name_rules.specs.World.Asking.{ColumnUse as AColumnUse, Function, SourceName}
 use Rattle.name_rules.specs.World.Demand.{Asks}
 

@@ -1,5 +1,5 @@
 -- What is asked of the trees inside a tree.
-use Rattle.std.specs.Prelude.{ℕ, List, [], ◌∷◌, ◌++◌, map, flat_map, Option}
+use Rattle.std.specs.Prelude.{List, [], ◌∷◌, map, flat_map, Option}
 use Rattle.std.specs.Option.{option_map_or}
 use Rattle.sql_token.specs.declared.token.Token.{Token}
 use Rattle.sql_expr.specs.declared.lists.Commas.{Commas}
@@ -8,7 +8,7 @@ use Rattle.sql_expr.specs.declared.names.ColumnUse.{ColumnUse}
 use Rattle.sql_expr.specs.declared.expr.Expr.{Expr}
 use Rattle.sql_expr.specs.declared.select.Select.{Select}
 use Rattle.sql_expr.specs.declared.source.Sources.{Sources}
-use Rattle.name_rules.specs.World.{Binding, Demand, Joined, Origin, Shown, Where}
+use Rattle.name_rules.specs.World.{Demand, Joined, Origin, Shown, Where}
 
 -- Where a FROM stands: what its selects in parentheses see, what its ON sees, the target of an UPDATE before it, and its columns
 -- that are joined away.

@@ -1,5 +1,5 @@
 -- Names in USING, and NATURAL: two binders that are joined into one.
-use Rattle.std.specs.Prelude.{◌≡◌, ◌≢◌, ◌<◌, ◌↔◌, ℕ, Bool, true, false, IsTrue, ◌⊎◌, List, [], ◌∷◌, map, Option, Some, None}
+use Rattle.std.specs.Prelude.{◌≡◌, ◌≢◌, ◌<◌, ℕ, false, IsTrue, ◌⊎◌, List, [], ◌∷◌, map}
 use Rattle.name_scope.specs.Rank.{Seen}
 use Rattle.name_scope.specs.Sees.{is_named}
 use Rattle.name_rules.specs.Meaning.{IsAmong, Means}
@@ -11,7 +11,7 @@ pub record IsFirstOfName (binders : List Seen) (name : List ℕ) (s : Seen) : Ty
   pub visible : s.1.qualified_only ≡ false
   pub named : IsTrue (is_named name s.1.binder.name)
   pub first : (other : Seen) → IsAmong binders other → other.1.source ≡ s.1.source → other.1.qualified_only ≡ false
-    → IsTrue (is_named name other.1.binder.name) → ¬ (other.1.place < s.1.place)
+      → IsTrue (is_named name other.1.binder.name) → ¬ (other.1.place < s.1.place)
 
 -- A NATURAL joins these two columns: the right one is the first of a name in its source, and the name alone means the left one
 -- among the columns to the left, of which those of a further source to the right are further outward.
@@ -26,7 +26,7 @@ abbrev pub HasOtherPairs : (Seen → Seen) → List Seen → List Seen → List 
 HasOtherPairs counterpart left right left_after right_after =
     ((a : Seen) × (b : Seen) × IsPair left right a b × ¬ IsPair left_after right_after (counterpart a) (counterpart b))
     ⊎ ((a : Seen) × (b : Seen) × IsPair left_after right_after a b
-      × ((c d : Seen) → IsPair left right c d → a ≡ counterpart c → b ≡ counterpart d → ⊥))
+    × ((c d : Seen) → IsPair left right c d → a ≡ counterpart c → b ≡ counterpart d → ⊥))
 
 -- a NATURAL clashes with a renaming: under the new names it has other pairs
 abbrev pub PairsClash : Renaming → List Seen → List Seen → Type 0

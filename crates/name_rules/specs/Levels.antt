@@ -1,10 +1,10 @@
 -- What stands at a level: the columns and the rowid names of sources, and aliases.
-use Rattle.std.specs.Prelude.{ℕ, suc, ◌+◌, Bool, true, false, ◌&&◌, List, [], ◌∷◌, ◌++◌, map, flat_map, filter_map, filter, codes, not, Option, Some, None}
+use Rattle.std.specs.Prelude.{ℕ, suc, ◌+◌, Bool, true, false, ◌&&◌, List, [], ◌∷◌, ◌++◌, map, flat_map, filter, codes, not, Some, None}
 use Rattle.std.specs.Option.{option_map_or}
 use Rattle.std.specs.List.{list_any}
 use Rattle.name_scope.specs.declared.identity.Identity.{Identity}
 use Rattle.name_rules.specs.Identities.{is_same}
-use Rattle.name_rules.specs.World.{Binding, Joined, Label, Origin, Shown}
+use Rattle.name_rules.specs.World.{Binding, Joined, Origin, Shown}
 use Rattle.name_rules.specs.World.Label.{FixedName}
 
 -- what a function of the number and the element makes of each, counted from here
@@ -25,7 +25,7 @@ column_binding class away o place c = record {
   qualified_only = is_away away o.source c;
   source = Some o.source;
   name = c.name;
-  what = c.what
+  what = c.what;
 }
 
 abbrev pub rowid_binding : ℕ → Origin → Identity → ℕ → List ℕ → Binding
@@ -36,7 +36,7 @@ rowid_binding class o what place name = record {
   qualified_only = false;
   source = Some o.source;
   name = Some (FixedName name);
-  what = what
+  what = what;
 }
 
 -- the columns of a source, of class 1
@@ -80,7 +80,7 @@ fixed_binding class place name what = record {
   qualified_only = false;
   source = None;
   name = Some (FixedName name);
-  what = what
+  what = what;
 }
 
 -- a source of an arm, for the name before `.*`
@@ -92,7 +92,7 @@ star_binding o = record {
   qualified_only = false;
   source = Some o.source;
   name = o.name;
-  what = o.source
+  what = o.source;
 }
 
 abbrev pub star_level : List Origin → List Binding

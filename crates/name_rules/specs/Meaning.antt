@@ -1,6 +1,5 @@
 -- What a use means among all the binders that stand where it stands, seen or not.
-use Rattle.std.specs.Prelude.{◌≡◌, ℕ, ◌+◌, Bool, true, false, IsTrue, ◌⊎◌, List, [], ◌∷◌, ◌++◌, length, map, Option, Some, None}
-use Rattle.std.specs.List.{AllByRecursion}
+use Rattle.std.specs.Prelude.{◌≡◌, ℕ, ◌+◌, IsTrue, ◌⊎◌, List, [], ◌∷◌, ◌++◌, length, map, Option, Some, None}
 use Rattle.name_scope.specs.declared.level.Level.{Level}
 use Rattle.name_scope.specs.declared.level.Sight.{Sight}
 use Rattle.name_scope.specs.declared.row.Row.{Row}

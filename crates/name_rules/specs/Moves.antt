@@ -12,15 +12,15 @@ use Rattle.name_rules.specs.Asked.{Asked, IsFirstClash, IsRight, Met, Question, 
 use Rattle.name_rules.specs.Asked.Question.{ForColumn, ForObject, ForOther, ForSource}
 use Rattle.name_rules.specs.Asked.SchemaUse.{Natural, OneTarget, TwoTargets}
 use Rattle.name_rules.specs.Identities.{numbers_of}
-use Rattle.name_rules.specs.Naming.{Naming, Placed, binders_of, name_of, placed_in, seen_of, spelling_of}
+use Rattle.name_rules.specs.Naming.{Placed, binders_of, name_of, placed_in, seen_of, spelling_of}
 use Rattle.name_rules.specs.Part.{Part}
 use Rattle.name_rules.specs.Part.Part.{Name, Qualifier}
 use Rattle.name_rules.specs.Renaming.{Renaming}
 use Rattle.name_rules.specs.Schema.{Schema, demands_at, is_read, naming_of}
-use Rattle.name_rules.specs.World.{Ask, Asking, Binding, Demand, Label, Text, World}
+use Rattle.name_rules.specs.World.{Ask, Asking, Binding, Demand, Label, World}
 use Rattle.name_rules.specs.World.Asking.{ColumnUse, Function, IndexedBy, Listed, NaturalWord, Owner, Parent, ParentColumn, SourceName, StarSource, Using}
 use Rattle.name_rules.specs.World.Demand.{Asks}
-use Rattle.name_rules.specs.World.Label.{ColumnName, FixedName, ObjectName}
+use Rattle.name_rules.specs.World.Label.{ColumnName, ObjectName}
 
 -- A renaming of a schema: of the table of a row, or of a column of it, to a new name.
 pub data Command : Type 0 where
@@ -114,7 +114,7 @@ module _ (schema : Schema) (world : World) where
         part = part;
         old = name_of (naming_of schema) (label_of command);
         new = new_name command;
-        moves = moves_at command part
+        moves = moves_at command part;
       })
 
   -- the binders of these levels as they are seen

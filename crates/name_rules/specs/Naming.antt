@@ -1,5 +1,5 @@
 -- The names of a schema, and the binders of a use under them.
-use Rattle.std.specs.Prelude.{ℕ, ◌+◌, false, if◌then◌else◌, List, [], ◌∷◌, ◌++◌, length, map, filter, codes, Option, Some, None, option_map}
+use Rattle.std.specs.Prelude.{ℕ, ◌+◌, false, if◌then◌else◌, List, [], ◌∷◌, ◌++◌, length, map, filter, codes, Some, None, option_map}
 use Rattle.name_scope.specs.declared.identity.Identity.{Identity}
 use Rattle.name_scope.specs.declared.identity.Identity.TheVariants as identity
 use Rattle.name_scope.specs.declared.level.Sight.{Sight}
@@ -9,7 +9,7 @@ use Rattle.name_scope.specs.declared.usage.UseKind.{UseKind}
 use Rattle.name_scope.specs.declared.usage.UseKind.TheVariants as kind
 use Rattle.name_scope.specs.Rank.{Seen}
 use Rattle.name_scope.specs.Sees.{has_sources, kind_of, sees_object}
-use Rattle.name_rules.specs.World.{Ask, Asking, Binding, Label, Reply, Text}
+use Rattle.name_rules.specs.World.{Ask, Asking, Binding, Label, Text}
 use Rattle.name_rules.specs.World.Asking.{Function, IndexedBy, Owner, Parent, SourceName}
 use Rattle.name_rules.specs.World.Label.{ColumnName, FixedName, ObjectName}
 use Rattle.name_rules.specs.World.Reply.{One}
@@ -43,7 +43,7 @@ sight_of naming b = record {
   qualifier = option_map (name_of naming) b.qualifier;
   qualified_only = b.qualified_only;
   source = b.source;
-  binder = record { row = declaring_row b.what; name = option_map (name_of naming) b.name; what = b.what }
+  binder = record { row = declaring_row b.what; name = option_map (name_of naming) b.name; what = b.what };
 }
 
 -- a binder and its number of scopes outward
@@ -76,7 +76,7 @@ object_binding name what = record {
   qualified_only = false;
   source = None;
   name = Some name;
-  what = what
+  what = what;
 }
 
 abbrev fixed_bindings : RowKind → UseKind → List Binding

@@ -1,7 +1,6 @@
 -- A renaming as it is met at one use, and what it makes of binders, spellings and answers.
-use Rattle.std.specs.Prelude.{◌≡◌, ℕ, Bool, true, false, cond, IsTrue, List, map, Option, Some, None, option_map}
+use Rattle.std.specs.Prelude.{ℕ, Bool, cond, IsTrue, List, Option, Some, None}
 use Rattle.name_scope.specs.declared.identity.Identity.{Identity}
-use Rattle.name_scope.specs.declared.level.Sight.{Sight}
 use Rattle.name_scope.specs.Rank.{Seen}
 use Rattle.name_scope.specs.Sees.{is_named}
 use Rattle.name_rules.specs.Meaning.{IsAmong}

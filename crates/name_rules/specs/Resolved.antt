@@ -1,5 +1,5 @@
 -- The resolved form of a text: its tokens, where each use is what it denotes, and the names that tables and columns declare are erased.
-use Rattle.std.specs.Prelude.{◌≡◌, ◌↔◌, ◌==◌, ℕ, nat_le, nat_lt, cond, Bool, true, false, ◌&&◌, ◌||◌, List, [], ◌∷◌, ◌++◌, map, flat_map, Contains, Option, Some, None}
+use Rattle.std.specs.Prelude.{◌≡◌, ◌↔◌, ◌==◌, ℕ, nat_le, nat_lt, cond, Bool, false, ◌&&◌, List, [], ◌∷◌, map, flat_map, Contains}
 use Rattle.std.specs.List.{list_any}
 use Rattle.sql_token.specs.declared.token.Token.{Token}
 use Rattle.sql_tree.specs.declared.tree.Tree.{Tree}
@@ -7,7 +7,7 @@ use Rattle.sql_tree.specs.declared.tree.Tree.TheVariants as Tree'
 use Rattle.name_rules.specs.Tables.{declared}
 use Rattle.name_rules.specs.Texts.{demands_of}
 use Rattle.name_rules.specs.Told.{told}
-use Rattle.name_rules.specs.World.{Ask, Demand, Joined, Reply, Text, World}
+use Rattle.name_rules.specs.World.{Demand, Joined, Reply, Text, World}
 use Rattle.name_rules.specs.World.Demand.{Asks}
 use Rattle.name_rules.specs.World.Reply.{Pairs}
 

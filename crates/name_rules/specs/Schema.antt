@@ -1,5 +1,5 @@
 -- A schema as it is read, and what its world must be.
-use Rattle.std.specs.Prelude.{◌≡◌, ◌≢◌, ◌⊎◌, ℕ, Bool, true, false, ◌&&◌, not, IsTrue, List, [], ◌∷◌, length, flat_map, slice_get, Contains, Option, Some, None, is_none}
+use Rattle.std.specs.Prelude.{◌≡◌, ◌≢◌, ◌⊎◌, ℕ, Bool, false, ◌&&◌, not, IsTrue, List, [], ◌∷◌, length, slice_get, Contains, Option, Some, None, is_none}
 use Rattle.std.specs.Option.{option_map_or}
 use Rattle.sql_token.specs.declared.token.Token.{Token}
 use Rattle.sql_token.specs.Names.{SpellsName}
@@ -8,10 +8,8 @@ use Rattle.sql_tree.specs.Nesting.{FirstTooDeep}
 use Rattle.sql_tree.specs.Rules.{SpellsTree}
 use Rattle.sql_tree.specs.declared.tree.Tree.{Tree}
 use Rattle.sql_tree.specs.declared.tree.Tree.TheVariants as Tree'
-use Rattle.name_scope.specs.declared.identity.Identity.{Identity}
 use Rattle.name_scope.specs.declared.identity.Identity.TheVariants as identity
 use Rattle.name_scope.specs.declared.row.Row.{Row}
-use Rattle.name_scope.specs.declared.row.RowKind.{RowKind}
 use Rattle.name_scope.specs.declared.row.RowKind.TheVariants as kind
 use Rattle.name_scope.specs.Sees.{is_index, is_virtual, row_of, same_names}
 use Rattle.name_rules.specs.Answers.{IsRightOf}
@@ -19,9 +17,9 @@ use Rattle.name_rules.specs.Naming.{Naming}
 use Rattle.name_rules.specs.Tables.{declared}
 use Rattle.name_rules.specs.Texts.{demands_of}
 use Rattle.name_rules.specs.Told.{told}
-use Rattle.name_rules.specs.World.{Ask, Asking, Demand, Reply, Text, World}
+use Rattle.name_rules.specs.World.{Ask, Demand, Reply, Text, World}
 use Rattle.name_rules.specs.World.Reply.{Nothing}
-use Rattle.name_rules.specs.World.Demand.{Asks, Counts, HasBody, HasKey, HasRowid, IsNew, Shows}
+use Rattle.name_rules.specs.World.Demand.{Asks, Counts, HasKey, HasRowid, IsNew, Shows}
 
 -- The rows of a schema, and of each row the tokens of its text, the text by them, and the tree that they spell, if there is one.
 pub record Schema : Type 0 where
@@ -71,7 +69,7 @@ column_name text _ ordinal = []
 abbrev pub naming_of : Schema → Naming
 naming_of schema = record {
   object = λ row. option_map_or (λ r. r.name) (row_of schema.rows row) [];
-  column = λ row ordinal. option_map_or (λ tree. column_name (schema.texts row) tree ordinal) (schema.trees row) []
+  column = λ row ordinal. option_map_or (λ tree. column_name (schema.texts row) tree ordinal) (schema.trees row) [];
 }
 
 module _ (schema : Schema) where

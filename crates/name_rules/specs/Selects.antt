@@ -1,5 +1,5 @@
 -- Selects: the columns that they show, and what they demand.
-use Rattle.std.specs.Prelude.{ℕ, ◌+◌, ◌*◌, cond, List, [], ◌∷◌, ◌++◌, length, map, flat_map, codes, decimal, Bool, true, false, Option, Some, None, option_map}
+use Rattle.std.specs.Prelude.{ℕ, ◌+◌, ◌*◌, cond, List, [], ◌∷◌, ◌++◌, length, map, flat_map, codes, decimal, Bool, true, false, Option, Some, None}
 use Rattle.std.specs.Option.{option_map_or}
 use Rattle.sql_token.specs.declared.token.Token.{Token}
 use Rattle.sql_expr.specs.Levels.{OpenArm}
@@ -19,8 +19,8 @@ use Rattle.sql_expr.specs.declared.select.ValuesRow.{ValuesRow}
 use Rattle.sql_expr.specs.declared.select.With.{With}
 use Rattle.sql_expr.specs.declared.expr.Expr.{Expr}
 use Rattle.sql_expr.specs.declared.expr.InSet.TheOpen.{Arm-F}
-use Rattle.sql_expr.specs.declared.select.Arm.{Arm, out-Arm}
-use Rattle.sql_expr.specs.declared.select.CompoundArm.{CompoundArm, out-CompoundArm}
+use Rattle.sql_expr.specs.declared.select.Arm.{out-Arm}
+use Rattle.sql_expr.specs.declared.select.CompoundArm.{out-CompoundArm}
 use Rattle.sql_expr.specs.declared.select.Select.{Select, out-Select}
 use Rattle.sql_expr.specs.declared.select.SelectArm.{SelectArm, out-SelectArm}
 use Rattle.sql_expr.specs.declared.source.Sources.{Sources}
@@ -28,10 +28,10 @@ use Rattle.name_scope.specs.declared.identity.Identity.{Identity}
 use Rattle.name_scope.specs.declared.identity.Identity.TheVariants as identity
 use Rattle.name_rules.specs.Expressions.{of_term, of_window}
 use Rattle.name_rules.specs.Identities.{is_same}
-use Rattle.name_rules.specs.Inner.{FromPlace, Inner, items_of, names_in, of_each, of_part}
+use Rattle.name_rules.specs.Inner.{Inner, items_of, of_each, of_part}
 use Rattle.name_rules.specs.Levels.{covered, fixed_binding, level_of, numbered, origin_bindings, star_level}
 use Rattle.name_rules.specs.Told.{label_by, told, use_end, use_start}
-use Rattle.name_rules.specs.World.{Ask, Asking, Binding, Demand, Joined, Label, Origin, Reply, Shown, Text, Where, World}
+use Rattle.name_rules.specs.World.{Asking, Binding, Demand, Joined, Label, Origin, Reply, Shown, Text, Where, World}
 use Rattle.name_rules.specs.World.Asking.{SourceName, StarSource}
 use Rattle.name_rules.specs.World.Demand.{Asks, Counts, HasBody, Shows}
 use Rattle.name_rules.specs.World.Label.{FixedName}
@@ -107,7 +107,7 @@ module _ (text : Text) (world : World) (inner : Inner) where
   shown_item away origins arm item (ResultItem'.Expr expr alias) =
       record {
         name = option_map_or (λ a. Some (FixedName (text.spelled a.name))) alias (lone_label (inner.lone expr));
-        what = result_at arm item 0
+        what = result_at arm item 0;
       }
       ∷ []
 

@@ -1,5 +1,5 @@
 -- The sources of a FROM: what they show, what their joins join away, and what they demand.
-use Rattle.std.specs.Prelude.{ℕ, List, [], ◌∷◌, ◌++◌, map, flat_map, Option, Some, None, option_map}
+use Rattle.std.specs.Prelude.{List, [], ◌∷◌, ◌++◌, map, flat_map, Option, Some, None, option_map}
 use Rattle.std.specs.Option.{option_map_or}
 use Rattle.sql_token.specs.declared.token.Token.{Token}
 use Rattle.sql_expr.specs.Levels.{OpenTableSource}
@@ -14,12 +14,12 @@ use Rattle.sql_expr.specs.declared.expr.Expr.{Expr}
 use Rattle.sql_expr.specs.declared.expr.InSet.TheOpen.{TableSource-F}
 use Rattle.sql_expr.specs.declared.source.JoinedSource.{JoinedSource, out-JoinedSource}
 use Rattle.sql_expr.specs.declared.source.Sources.{Sources, out-Sources}
-use Rattle.sql_expr.specs.declared.source.TableSource.{TableSource, out-TableSource}
+use Rattle.sql_expr.specs.declared.source.TableSource.{out-TableSource}
 use Rattle.name_rules.specs.Expressions.{asks_function, asks_source}
 use Rattle.name_rules.specs.Inner.{FromPlace, Inner, items_of, of_each, of_part}
 use Rattle.name_rules.specs.Levels.{join_levels, level_of}
 use Rattle.name_rules.specs.Told.{away_by, columns_by, name_by, object_start, rowid_by, source_at, told}
-use Rattle.name_rules.specs.World.{Ask, Asking, Binding, Demand, Joined, Label, Origin, Reply, Text, Where, World}
+use Rattle.name_rules.specs.World.{Asking, Binding, Demand, Joined, Label, Origin, Reply, Text, Where, World}
 use Rattle.name_rules.specs.World.Asking.{IndexedBy, NaturalWord, Using}
 use Rattle.name_rules.specs.World.Demand.{Asks}
 use Rattle.name_rules.specs.World.Label.{FixedName}
@@ -44,7 +44,7 @@ module _ (text : Text) (world : World) (inner : Inner) where
     source = source_at text world start;
     name = option_map_or (λ a. Some (alias_label a)) alias (name_by text world reply name);
     columns = columns_by world reply;
-    rowid = rowid_by world reply
+    rowid = rowid_by world reply;
   }
 
   -- a source in order: its name is its alias, else as it is spelled there; a select has none
@@ -57,7 +57,7 @@ module _ (text : Text) (world : World) (inner : Inner) where
         source = source_at text world select.opening;
         name = option_map alias_label alias;
         columns = inner.shown select.inner;
-        rowid = None
+        rowid = None;
       }
       ∷ []
   origins_of (TableSource-F.Sources sources) = inner.origins sources.inner

@@ -1,6 +1,5 @@
 -- What the statements of a trigger demand.
-use Rattle.std.specs.Prelude.{ℕ, List, [], ◌∷◌, ◌++◌, map, flat_map, codes, Option, Some, None}
-use Rattle.std.specs.Option.{option_map_or}
+use Rattle.std.specs.Prelude.{List, [], ◌∷◌, ◌++◌, map, flat_map, codes, Option, Some, None}
 use Rattle.sql_token.specs.declared.token.Token.{Token}
 use Rattle.sql_expr.specs.declared.lists.After.{After}
 use Rattle.sql_expr.specs.declared.expr.Expr.{Expr}
@@ -23,7 +22,7 @@ use Rattle.name_rules.specs.Levels.{level_of, qualified_level}
 use Rattle.name_rules.specs.Selects.{from_away, from_origins}
 use Rattle.name_rules.specs.Sources.{origin_by}
 use Rattle.name_rules.specs.Told.{source_at, told}
-use Rattle.name_rules.specs.World.{Ask, Asking, Binding, Demand, Label, Origin, Text, Where, World}
+use Rattle.name_rules.specs.World.{Binding, Demand, Origin, Text, Where, World}
 use Rattle.name_rules.specs.World.Asking.{Listed, SourceName}
 use Rattle.name_rules.specs.World.Demand.{Asks}
 use Rattle.name_rules.specs.World.Label.{FixedName}

@@ -1,11 +1,10 @@
 -- What the text of a table shows and demands.
-use Rattle.std.specs.Prelude.{ℕ, cond, not, Bool, true, false, List, [], ◌∷◌, ◌++◌, length, map, flat_map, filter_map, Option, Some, None, is_some}
+use Rattle.std.specs.Prelude.{ℕ, cond, Bool, true, false, List, [], ◌∷◌, ◌++◌, map, flat_map, filter_map, Option, Some, None, is_some}
 use Rattle.std.specs.Option.{option_map_or}
 use Rattle.std.specs.List.{list_any}
 use Rattle.sql_token.specs.declared.token.Token.{Token}
 use Rattle.sql_expr.specs.declared.lists.Commas.{Commas}
 use Rattle.sql_expr.specs.declared.names.ColumnUse.{ColumnUse}
-use Rattle.sql_expr.specs.declared.expr.Expr.{Expr}
 use Rattle.sql_tree.specs.declared.conflict.References.{References}
 use Rattle.sql_tree.specs.declared.table.Column.{Column}
 use Rattle.sql_tree.specs.declared.table.ColumnCons.{ColumnCons}
@@ -16,15 +15,14 @@ use Rattle.sql_tree.specs.declared.table.DefaultValue.TheVariants as DefaultValu
 use Rattle.sql_tree.specs.declared.table.Indexed.{Indexed}
 use Rattle.sql_tree.specs.declared.table.TableCons.{TableCons}
 use Rattle.sql_tree.specs.declared.table.TableCons.TheVariants as TableCons'
-use Rattle.sql_tree.specs.declared.table.TableConstraints.{TableConstraints}
 use Rattle.sql_tree.specs.declared.table.TableOption.{TableOption}
 use Rattle.sql_tree.specs.declared.table.TableOption.TheVariants as TableOption'
 use Rattle.name_scope.specs.declared.identity.Identity.{Identity}
 use Rattle.name_scope.specs.declared.identity.Identity.TheVariants as identity
-use Rattle.name_rules.specs.Inner.{Inner, items_of, names_in, of_each, of_part}
+use Rattle.name_rules.specs.Inner.{Inner, items_of, names_in, of_each}
 use Rattle.name_rules.specs.Levels.{columns_level, level_of, numbered}
 use Rattle.name_rules.specs.Told.{columns_by, source_at, told, use_start}
-use Rattle.name_rules.specs.World.{Ask, Asking, Binding, Demand, Label, Origin, Reply, Shown, Text, Where, World}
+use Rattle.name_rules.specs.World.{Binding, Demand, Origin, Reply, Shown, Text, Where, World}
 use Rattle.name_rules.specs.World.Asking.{Listed, Parent, ParentColumn}
 use Rattle.name_rules.specs.World.Demand.{Asks, HasKey, HasRowid, IsNew, Shows}
 use Rattle.name_rules.specs.World.Label.{ColumnName, ObjectName}
@@ -103,7 +101,7 @@ module _ (text : Text) (world : World) (inner : Inner) where
     source = source_at text world x.name;
     name = Some (ObjectName text.row);
     columns = table_columns text.row x;
-    rowid = table_rowid text.row x
+    rowid = table_rowid text.row x;
   }
 
   abbrev alone : List Binding → Where
@@ -130,7 +128,9 @@ module _ (text : Text) (world : World) (inner : Inner) where
   asks_parent_column table name =
       Asks
       (record {
-        asking = ParentColumn (told text world table); tokens = name ∷ []; levels = parent_level table (told text world table) ∷ []
+        asking = ParentColumn (told text world table);
+        tokens = name ∷ [];
+        levels = parent_level table (told text world table) ∷ [];
       })
 
   abbrev pub of_references : References → List Demand

@@ -1,6 +1,5 @@
 -- What the text of an object shows and demands.
-use Rattle.std.specs.Prelude.{ℕ, List, [], ◌∷◌, ◌++◌, map, flat_map, codes, Option, Some, None}
-use Rattle.std.specs.Option.{option_map_or}
+use Rattle.std.specs.Prelude.{ℕ, List, [], ◌∷◌, ◌++◌, map, flat_map, codes, Some, None}
 use Rattle.sql_token.specs.declared.token.Token.{Token}
 use Rattle.sql_tree.specs.declared.index.CreateIndex.{CreateIndex}
 use Rattle.sql_tree.specs.declared.index.CreateView.{CreateView}
@@ -9,17 +8,16 @@ use Rattle.sql_tree.specs.declared.tree.Tree.TheVariants as Tree'
 use Rattle.sql_tree.specs.declared.trigger.CreateTrigger.{CreateTrigger}
 use Rattle.sql_tree.specs.declared.trigger.TriggerEvent.{TriggerEvent}
 use Rattle.sql_tree.specs.declared.trigger.TriggerEvent.TheVariants as TriggerEvent'
-use Rattle.name_scope.specs.declared.identity.Identity.{Identity}
 use Rattle.name_scope.specs.declared.identity.Identity.TheVariants as identity
 use Rattle.name_rules.specs.Inner.{Inner, items_of, of_part}
-use Rattle.name_rules.specs.Levels.{level_of, qualified_level}
+use Rattle.name_rules.specs.Levels.{qualified_level}
 use Rattle.name_rules.specs.Selects.{listed_of, of_list}
 use Rattle.name_rules.specs.Sources.{origin_by}
 use Rattle.name_rules.specs.Statements.{around, asks_listed, of_statement}
 use Rattle.name_rules.specs.Tables.{check_where, column_where, nowhere, of_keys, of_table}
 use Rattle.name_rules.specs.Told.{object_names, object_start, source_at, told}
 use Rattle.name_rules.specs.Trees.{inner_at}
-use Rattle.name_rules.specs.World.{Ask, Asking, Binding, Demand, Label, Origin, Text, Where, World}
+use Rattle.name_rules.specs.World.{Binding, Demand, Origin, Text, World}
 use Rattle.name_rules.specs.World.Asking.{Owner}
 use Rattle.name_rules.specs.World.Demand.{Asks, HasKey, HasRowid, Shows}
 use Rattle.name_rules.specs.World.Label.{FixedName}
@@ -48,7 +46,7 @@ module _ (text : Text) (world : World) (inner : Inner) where
   trigger_origin x at name =
       record (origin_by text world inner x.head.object.name x.head.object.name None (told text world (object_start x.head.object))) {
         source = source_at text world at;
-        name = Some (FixedName name)
+        name = Some (FixedName name);
       }
 
   -- NEW stands for a row that is inserted or updated, OLD for one that is updated or deleted. NEW is known by the word ON, OLD by

@@ -1,5 +1,5 @@
 -- What expressions, selects and sources demand and show, by their height.
-use Rattle.std.specs.Prelude.{ℕ, zero, suc, List, [], None}
+use Rattle.std.specs.Prelude.{ℕ, zero, suc, [], None}
 use Rattle.name_rules.specs.Expressions.{bare_use, lone_use, of_expr}
 use Rattle.name_rules.specs.Inner.{Inner}
 use Rattle.name_rules.specs.Selects.{of_select, shown_of}
@@ -18,7 +18,7 @@ module _ (text : Text) (world : World) where
     origins = λ x. [];
     away = λ x. [];
     lone = λ x. None;
-    bare = λ x. None
+    bare = λ x. None;
   }
   inner_at (suc n) = record {
     expr = of_expr (inner_at n);
@@ -28,5 +28,5 @@ module _ (text : Text) (world : World) where
     origins = sources_origins text world (inner_at n);
     away = sources_away text world (inner_at n);
     lone = lone_use (inner_at n).lone;
-    bare = bare_use (inner_at n).bare
+    bare = bare_use (inner_at n).bare;
   }

@@ -1,5 +1,5 @@
 -- When a schema is valid, and the first refusal where it is not.
-use Rattle.std.specs.Prelude.{◌≡◌, ◌<◌, ◌≤◌, ℕ, zero, IsTrue, ◌⊎◌, List, [], Contains, Option, Some, None}
+use Rattle.std.specs.Prelude.{◌≡◌, ◌≤◌, ℕ, zero, IsTrue, ◌⊎◌, List, Contains, Some, None}
 use Rattle.sql_token.specs.declared.token.Token.{Token}
 use Rattle.sql_token.specs.Token.{AreTokens, FirstBad}
 use Rattle.sql_tree.specs.Nesting.{FirstTooDeep}
