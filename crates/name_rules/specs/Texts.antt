@@ -41,13 +41,14 @@ module _ (text : Text) (world : World) (inner : Inner) where
       ∷ HasKey text.row []
       ∷ of_list text world inner x.columns (inner.shown x.select) ++ inner.select (nowhere text world inner) x.select
 
-  -- the table or view of a trigger, under this name, known by this token
+  -- the table or view of a trigger
+  abbrev owner_origin : CreateTrigger → Origin
+  owner_origin x =
+      origin_by text world inner (object_start x.head.object) x.head.object.name None (told text world (object_start x.head.object))
+
+  -- the same under this name, known by this token
   abbrev trigger_origin : CreateTrigger → Token → List ℕ → Origin
-  trigger_origin x at name =
-      record (origin_by text world inner x.head.object.name x.head.object.name None (told text world (object_start x.head.object))) {
-        source = source_at text world at;
-        name = Some (FixedName name);
-      }
+  trigger_origin x at name = record (owner_origin x) { source = source_at text world at; name = Some (FixedName name) }
 
   -- NEW stands for a row that is inserted or updated, OLD for one that is updated or deleted. NEW is known by the word ON, OLD by
   -- that of the event.
@@ -69,7 +70,7 @@ module _ (text : Text) (world : World) (inner : Inner) where
   abbrev pub of_trigger : CreateTrigger → List Demand
   of_trigger x =
       Asks (record { asking = Owner; tokens = object_names x.head.object; levels = [] })
-      ∷ map (asks_listed text world inner (trigger_level x) (trigger_origin x x.head.on (codes "new"))) (event_names x.head.event)
+      ∷ map (asks_listed text world inner (trigger_level x) (owner_origin x)) (event_names x.head.event)
       ++ of_part (λ condition. inner.expr (around text world inner (trigger_level x)) condition.part) x.head.condition
       ++ flat_map (λ ended. of_statement text world inner (trigger_level x) ended.statement) (x.first ∷ x.more)
 
