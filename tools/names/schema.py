@@ -1,5 +1,7 @@
 """A schema of texts: what each use denotes, or the first refusal, by docs/names.md."""
 
+from typing import NamedTuple
+
 from names import trees as t
 from names.grammar import Parser, Syntax
 from names.scopes import ROWID_NAMES, Binder, Column, Level
@@ -14,6 +16,14 @@ FIXED_COLUMNS = {
     1: ("key", "value", "type", "atom", "id", "parent", "fullkey", "path"),
 }
 KINDS = {t.CreateTable: "table", t.CreateIndex: "index", t.CreateView: "view", t.CreateTrigger: "trigger"}
+
+
+class Fault(NamedTuple):
+    """A fault of a text: its place, its kind (a use, a count, a second column), and the use."""
+
+    at: int
+    kind: str
+    use: object = None
 
 
 class Row:
@@ -142,6 +152,12 @@ class Schema:
         return None
 
     def _circular(self):
+        for row in self.circular_rows():
+            return "circular " + quoted(row.name)
+        return None
+
+    def circular_rows(self):
+        """The circular objects, in order."""
         on_views, on_withs = {}, {}
         for row in self.rows:
             for each in row.walk.withs:
@@ -149,12 +165,11 @@ class Schema:
             for use in row.walk.uses:
                 if use.kind == "source" and use.binder() is not None:
                     self._stands_on(row, use, on_views, on_withs)
-        for row in self.rows:
-            if on_itself(("object", row.number), on_views):
-                return "circular " + quoted(row.name)
-            if any(on_itself(each.identity, on_withs) for each in row.walk.withs):
-                return "circular " + quoted(row.name)
-        return None
+        return [
+            row for row in self.rows
+            if on_itself(("object", row.number), on_views)
+            or any(on_itself(each.identity, on_withs) for each in row.walk.withs)
+        ]
 
     def _stands_on(self, row, use, on_views, on_withs):
         denotes = use.binder().denotes
@@ -167,12 +182,16 @@ class Schema:
 
     def _unresolved(self):
         for row in self.rows:
-            faults = [row.tokens[token].at for token, differs in row.walk.counts if differs()]
-            faults += self._second_columns(row)
-            faults += [use.at for use in self.uses_of(row) if not use.is_fine()]
+            faults = self.faults(row)
             if faults:
-                return "unresolved %s %d" % (quoted(row.name), min(faults))
+                return "unresolved %s %d" % (quoted(row.name), min(fault.at for fault in faults))
         return None
+
+    def faults(self, row):
+        """The faults of a row of a schema that is not circular."""
+        counts = [Fault(row.tokens[token].at, "count") for token, differs in row.walk.counts if differs()]
+        uses = [Fault(use.at, "use", use) for use in self.uses_of(row) if not use.is_fine()]
+        return counts + [Fault(at, "column") for at in self._second_columns(row)] + uses
 
     def _second_columns(self, row):
         if row.kind != "table":
