@@ -19,11 +19,12 @@ KINDS = {t.CreateTable: "table", t.CreateIndex: "index", t.CreateView: "view", t
 
 
 class Fault(NamedTuple):
-    """A fault of a text: its place, its kind (a use, a count, a second column), and the use."""
+    """A fault of a text: its place, its kind (a use, a count, a second column), the use, the bodies of WITH around."""
 
     at: int
     kind: str
     use: object = None
+    bodies: tuple = ()
 
 
 class Row:
@@ -189,8 +190,8 @@ class Schema:
 
     def faults(self, row):
         """The faults of a row of a schema that is not circular."""
-        counts = [Fault(row.tokens[token].at, "count") for token, differs in row.walk.counts if differs()]
-        uses = [Fault(use.at, "use", use) for use in self.uses_of(row) if not use.is_fine()]
+        counts = [Fault(row.tokens[at].at, "count", None, bodies) for at, differs, bodies in row.walk.counts if differs()]
+        uses = [Fault(use.at, "use", use, use.bodies) for use in self.uses_of(row) if not use.is_fine()]
         return counts + [Fault(at, "column") for at in self._second_columns(row)] + uses
 
     def _second_columns(self, row):

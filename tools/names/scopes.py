@@ -94,9 +94,9 @@ def denoted(sights):
 class Source:
     """A source: its identity, its name or None, its columns, and the identity of its rowid or None."""
 
-    def __init__(self, identity, name, columns, rowid=None, named_by=None, hidden=False):
+    def __init__(self, identity, name, columns, rowid=None, stands_for=None, hidden=False):
         self.identity, self.name, self.rowid = identity, name, rowid
-        self.named_by = named_by  # the object whose name is this source's name
+        self.stands_for = stands_for  # the object, fixed object or WITH name that it is
         self.hidden = hidden  # all of it wants a qualifier
         self.joined_away = set()
         self._columns = columns

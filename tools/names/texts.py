@@ -26,7 +26,7 @@ class TextWalk(Walk):
     def own_source(self, identity, name):
         """The table as a source of its own text, or of its index's."""
         return Source(self.identity("own"), name, lambda: self.schema.columns(identity), self.schema.rowid(identity),
-                      named_by=identity)
+                      stands_for=identity)
 
     def table(self, tree):
         """A table's text."""
@@ -118,7 +118,8 @@ class TextWalk(Walk):
         self.exprs([tree.when], level, self.empty_sources())
         for statement in tree.statements:
             if isinstance(statement, t.Select):
-                self.select(statement, level, self.empty_sources())
+                with self.marked("statement"):
+                    self.select(statement, level, self.empty_sources())
             elif isinstance(statement, t.Update):
                 self.update(statement, level)
             elif isinstance(statement, t.Insert):
@@ -156,7 +157,8 @@ class TextWalk(Walk):
         froms = From()
         level = Level(lambda: all_binders([target] + froms.settle()), outer)
         if tree.sources is not None:
-            self.sources(tree.sources, froms, Place(level, outer, self.empty_sources(), [target]))
+            with self.marked("update"):
+                self.sources(tree.sources, froms, Place(level, outer, self.empty_sources(), [target]))
         self.sets(tree.sets, target, level)
         self.exprs([tree.where], level, self.empty_sources())
 

@@ -1,5 +1,7 @@
 """The uses of a text, each with the level at which it stands, by the sections Selects, Joins and Texts of docs/names.md."""
 
+from contextlib import contextmanager
+
 from names import trees as t
 from names.scopes import (
     Binder, Column, From, Join, Level, Source, all_binders, denoted, sees, source_sees,
@@ -21,7 +23,8 @@ class Use:
         self.sights = None  # what it denotes, two for a USING name
         self.is_literal = self.is_unbound = False
         self.pairs = self.keys = None
-        self.bodies, self.exempt = (), None  # the bodies of WITH around a source name; the one it may name
+        self.bodies, self.exempt = (), None  # the bodies of WITH around it; the one that a source name may name
+        self.marks = frozenset()  # the parts of the text in which it stands
 
     @property
     def at(self):
@@ -179,9 +182,17 @@ class Walk:
     def __init__(self, schema, row):
         self.schema, self.row = schema, row
         self.uses, self.uses_of, self.withs = [], {}, []
-        self.counts = []  # pairs of a token and what tells whether the numbers differ there
+        self.counts = []  # a token, what tells whether the numbers differ there, and the bodies of WITH around
         self.select_scope = self.view_names = None
         self.bodies = ()
+        self.marks = frozenset()
+
+    @contextmanager
+    def marked(self, mark):
+        """Marks the uses that are listed meanwhile with the part of the text in which they stand."""
+        around, self.marks = self.marks, self.marks | {mark}
+        yield
+        self.marks = around
 
     def spells(self, name):
         """The folded name that a token spells."""
@@ -190,12 +201,17 @@ class Walk:
     def use(self, names, kind, level=None):
         """A further use."""
         found = Use(self.row, names, kind, level)
+        found.bodies, found.marks = self.bodies, self.marks
         self.uses.append(found)
         return found
 
     def empty_sources(self):
         """An empty level of source names: objects stand behind it in views and triggers."""
         return Level((), self.row.objects)
+
+    def count(self, token, differs):
+        """Numbers of columns are to be compared, with a fault at the token."""
+        self.counts.append((token, differs, self.bodies))
 
     # expressions
 
@@ -231,7 +247,7 @@ class Walk:
     def source_name(self, tokens, names, exempt=None):
         """A source name at a level of source names."""
         found = self.use(tokens, "source", names)
-        found.bodies, found.exempt = self.bodies, exempt
+        found.exempt = exempt
         return found
 
     def function_name(self, token):
@@ -260,14 +276,16 @@ class Walk:
             if natural is not None or using:
                 froms.joins.append(Join(left, right, natural, using))
             if joined.on is not None:
-                self.expr(joined.on, place.level, place.names)
+                with self.marked("on"):
+                    self.expr(joined.on, place.level, place.names)
             mine = mine + right
         return mine
 
     def source(self, tree, froms, place, exempt):
         """A source, or the sources of a group."""
         if isinstance(tree, t.GroupSource):
-            return self.sources(tree.sources, froms, place, exempt)
+            with self.marked("group"):
+                return self.sources(tree.sources, froms, place, exempt)
         if isinstance(tree, t.ObjectSource):
             found = self.object_source(tree, place, exempt)
         elif isinstance(tree, t.FunctionSource):
@@ -291,10 +309,9 @@ class Walk:
         """The source that a source name gives, under its alias or its own name."""
         binder = use.binder()
         denotes = binder.denotes if binder else None
-        named_by = denotes if alias is None else None
         shown = name if alias is None else alias
         return Source(self.identity(name), self.spells(shown), lambda: self.schema.columns(denotes),
-                      self.schema.rowid(denotes), named_by)
+                      self.schema.rowid(denotes), denotes)
 
     def function_source(self, tree, froms, place):
         """A table function as a source."""
@@ -305,7 +322,8 @@ class Walk:
             return all_binders(place.before + before)
 
         use = self.function_name(tree.name)
-        self.exprs(tree.args, Level(shown, place.outer), place.names)
+        with self.marked("arguments"):
+            self.exprs(tree.args, Level(shown, place.outer), place.names)
         return self.named_source(use, tree.name, tree.alias)
 
     # selects
@@ -323,7 +341,7 @@ class Walk:
             else:
                 self.select_arm(arm, outer, names, body_of if number else None)
         for arm in scope.arms[1:]:
-            self.counts.append((arm.tree.first, lambda arm=arm: len(arm.columns()) != len(scope.columns())))
+            self.count(arm.tree.first, lambda arm=arm: len(arm.columns()) != len(scope.columns()))
         self.order(tree.order, scope.arms, outer, names)
         self.exprs(tree.limit, Level(), names)
         return scope
@@ -349,7 +367,7 @@ class Walk:
         """The names of a column list, or None; its count is compared with the select's."""
         if tokens is None:
             return None
-        self.counts.append((tokens[0], lambda: len(tokens) != len(scope.columns())))
+        self.count(tokens[0], lambda: len(tokens) != len(scope.columns()))
         return [self.spells(name) for name in tokens]
 
     def values_arm(self, arm, names):
@@ -357,7 +375,7 @@ class Walk:
         rows = arm.tree.rows
         for first, exprs in rows:
             self.exprs(exprs, arm.plain, names)
-            self.counts.append((first, lambda exprs=exprs: len(exprs) != len(rows[0][1])))
+            self.count(first, lambda exprs=exprs: len(exprs) != len(rows[0][1]))
 
     def select_arm(self, arm, outer, names, exempt):
         """An arm SELECT; a source of it may name the WITH `exempt`."""
@@ -370,7 +388,9 @@ class Walk:
                 self.expr(item.expr, arm.plain, names)
             elif item.star_of is not None:
                 arm.starred[at] = self.use([item.star_of], "star", Level(lambda: star_binders(arm.froms)))
-        self.exprs(tree.where + tree.group + tree.having, alias_level, names)
+        self.exprs(tree.where + tree.having, alias_level, names)
+        with self.marked("order"):
+            self.exprs(tree.group, alias_level, names)
         self.exprs(tree.windows, arm.plain, names)
 
     def order(self, terms, arms, outer, names):
@@ -384,7 +404,8 @@ class Walk:
         first, second = Level(lambda: shown(3), outer), Level(lambda: shown(0), outer)
         for term in terms:
             one = t.one_use(term, True)
-            self.expr(term, second if one is not None and len(one.names) == 1 else first, names)
+            with self.marked("order"):
+                self.expr(term, second if one is not None and len(one.names) == 1 else first, names)
 
 
 class Place:
