@@ -21,10 +21,9 @@ def main():
     words = argparse.ArgumentParser(prog="names_reading")
     words.add_argument("--test", action="store_true")
     words.add_argument("--random", type=int, default=0)
-    words.add_argument("--renames", type=int, default=0)
     words.add_argument("--seed", type=int, default=1)
     asked = words.parse_args()
-    if not (asked.test or asked.random or asked.renames):
+    if not (asked.test or asked.random):
         return answer_lines()
     from names import checks
 
@@ -33,8 +32,6 @@ def main():
         failed += checks.examples()
     if asked.random:
         failed += checks.beside_sqlite(asked.random, asked.seed)
-    if asked.renames:
-        failed += checks.renames(asked.renames, asked.seed)
     return 1 if failed else 0
 
 

@@ -7,6 +7,7 @@ import subprocess
 from names import trees as t
 from names.schema import Schema
 from names.scopes import ROWID_NAMES
+from names.tokens import fold
 
 ERROR = re.compile(r"^(?:Parse|Runtime) error near line (\d+): (.*?)(?: \(\d+\))?$")
 SETTINGS = (".open :memory:", ".dbconfig dqs_ddl on", ".dbconfig dqs_dml on")
@@ -47,7 +48,8 @@ class Script:
                 self.say("EXPLAIN SELECT * FROM %s;" % quoted(row.name), asker)
             if row.kind == "trigger":
                 self.say(row.text + ";", asker)
-                self.say("EXPLAIN %s;" % fires(schema, row), asker)
+                if fires(schema, row) is not None:
+                    self.say("EXPLAIN %s;" % fires(schema, row), asker)
                 self.say("DROP TRIGGER IF EXISTS %s;" % quoted(row.name))
 
     def run(self):
@@ -67,14 +69,22 @@ class Script:
 
 
 def fires(schema, row):
-    """A statement that fires the trigger."""
+    """A statement that fires the trigger, or None where none can."""
     table = quoted(row.tokens[row.tree.table[-1]].spells())
     if row.tree.event == "INSERT":
         return "INSERT INTO %s DEFAULT VALUES" % table
     if row.tree.event == "DELETE":
         return "DELETE FROM %s" % table
     names = settable(schema, row)
-    return "UPDATE %s SET %s" % (table, ", ".join("%s = NULL" % quoted(name) for name in names or ["a"]))
+    listed = {fold(row.tokens[name].spells()) for name in row.tree.columns}
+    if not names or (listed and not listed & {fold(name) for name in names}):
+        return None
+    return "UPDATE %s SET %s" % (table, ", ".join("%s = NULL" % quoted(name) for name in names))
+
+
+def is_asked(schema, row):
+    """Whether sqlite3 reads the whole row."""
+    return row.kind != "trigger" or fires(schema, row) is not None
 
 
 def settable(schema, row):

@@ -1,7 +1,10 @@
 """The checks of `tools/names_reading`: the table of examples, and made schemas beside sqlite3."""
 
 import os
+from collections import Counter
 
+from names import beside, compare
+from names.made import Maker
 from names.schema import answer_line
 
 EXAMPLES = os.path.join(os.path.dirname(os.path.realpath(__file__)), "examples.txt")
@@ -35,3 +38,23 @@ def examples():
             failed += 1
             print("FAILED: %s\n  wanted %s\n  got    %s" % (line, wanted, got))
     return told("examples", failed, passed)
+
+
+def beside_sqlite(count, seed):
+    """Compares the reading of so many made schemas with sqlite3; gives the number of differences that aren't known."""
+    if not beside.is_there():
+        print("tools/names_reading: beside sqlite3: skipped, since there is no sqlite3")
+        return 0
+    failed, passed, known = 0, 0, Counter()
+    made = [Maker("%d %d" % (seed, number)).schema() for number in range(count)]
+    for number, (schema, messages) in enumerate(beside.messages(made)):
+        agree, names, unknown = compare.compared(schema, messages)
+        passed += agree
+        known.update(names)
+        failed += len(unknown)
+        for case in unknown:
+            print("FAILED: schema %d, %s: sqlite3 says %s" % (number, case.row.name, case.message))
+            print("  faults at", [fault.at for fault in case.faults], "of", "\t".join(made[number]))
+    for name, times in known.most_common():
+        print("  known: %4d %s" % (times, name))
+    return told("rows of %d made schemas beside sqlite3" % count, failed, passed)

@@ -1,6 +1,7 @@
 """Compares the reading of made schemas with what sqlite3 says of them."""
 
-from names.differences import explained_by
+from names.beside import is_asked
+from names.differences import explained_by, subject
 
 
 class Case:
@@ -12,13 +13,20 @@ class Case:
         self.faults, self.circular = faults, circular
         self.below = [number for number in stood_on(row) if number != row.number and messages[number] is not None]
 
-    def is_refused(self):
-        """Whether it has a fault, or stands on a row that sqlite3 refuses."""
-        return bool(self.faults or self.circular or self.below)
-
     def agrees(self):
-        """Whether both refuse or both accept."""
-        return self.is_refused() == (self.message is not None)
+        """Whether sqlite3 accepts a row without faults, or refuses one for a fault of it or of what it stands on."""
+        own = bool(self.faults or self.circular)
+        if self.message is None:
+            return not own
+        return bool(self.below) or (own and self.tells_a_fault())
+
+    def tells_a_fault(self):
+        """Whether the message is about the name of a fault, as far as it is about a name."""
+        name = subject(self.message)
+        uses = [fault.use for fault in self.faults if fault.kind == "use"]
+        if self.circular or name is None or len(uses) < len(self.faults):
+            return True
+        return any(use.spelling()[-1] == name.split(".")[-1] for use in uses)
 
 
 def stood_on(row):
@@ -31,7 +39,8 @@ def cases(schema, messages):
     """A case for each row; where some are circular, for these alone, since the others' columns can't be told."""
     circular = schema.circular_rows()
     for row in circular or schema.rows:
-        yield Case(schema, row, messages, [] if circular else schema.faults(row), row in circular)
+        if is_asked(schema, row):
+            yield Case(schema, row, messages, [] if circular else schema.faults(row), row in circular)
 
 
 def compared(schema, messages):

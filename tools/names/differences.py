@@ -143,13 +143,17 @@ def made_up(case, fault):
                for row in case.schema.rows for item in items_of(row.tree))
 
 
+def in_upsert(_case, fault):
+    return fault.use is not None and "upsert" in fault.use.marks
+
+
 REFUSED_HERE = (
     ("a WITH name that nobody uses is read here", in_unused_body),
     ("a body of WITH sees there what is around the place at which its name is used", in_body_used_inside),
     ("views and derived sources have rowid names in some builds of SQLite", of_rowid),
     ("ORDER BY of a trigger's own select isn't read there", in_order_of_statement),
     ("columns of a star are aliases in ORDER BY there", in_order_by),
-    ("a missing name after UPDATE OF is no fault there", after_update_of),
+    ("an upsert of a table without a key that can be met isn't read there", in_upsert),
     ("a table function without parentheses is a source there", function_without_parentheses),
     ("arguments of a table function see all sources of the FROM there", in_arguments),
     ("ON sees aliases there", alias_in_on),
@@ -193,11 +197,21 @@ def rowid_of_several(case):
 
 def group_by_itself(case):
     return subject(case.message) is not None and any(
-        use.kind in ("using", "natural") and use.marks & {"group", "update"} for use in case.row.walk.uses)
+        use.kind in ("using", "natural") and use.marks & {"group", "update"} for use in case.row.walk.uses
+    ) or any({"group", "on"} <= use.marks for use in uses_named(case))
 
 
 def arguments(case):
     return any("arguments" in use.marks for use in uses_named(case))
+
+
+def function_of_no_parentheses(case):
+    return any(function_without_parentheses(case, fault) for fault in case.faults)
+
+
+def star_of_two(case):
+    return case.message.startswith("ambiguous") and (subject(case.message) or "").count(".") == 2 and any(
+        item.expr is None for item in items_of(case.row.tree))
 
 
 def update_from(case):
@@ -226,6 +240,8 @@ REFUSED_THERE = (
     ("a rowid name is seen where one source alone has rowids there", rowid_of_several),
     ("a group in parentheses, or the FROM of an UPDATE, is joined by itself there", group_by_itself),
     ("arguments of a table function see all sources of the FROM there", arguments),
+    ("a table function without parentheses is a source there", function_of_no_parentheses),
+    ("a star over two sources of one name is ambiguous there", star_of_two),
     ("the sources of an UPDATE's FROM don't see its target there", update_from),
     ("a term of a compound's ORDER BY must be a result column there", compound_order),
     ("only the last arms of a UNION may name their own WITH name there, and once", recursion),
@@ -239,8 +255,7 @@ def explained_by(case):
         return next((name for name, explains in REFUSED_THERE if explains(case)), None)
     if case.circular:
         return REFUSED_HERE[0][0] if any(each.identity not in live_bodies(case.row) for each in case.row.walk.withs) else None
+    if any(after_update_of(case, fault) for fault in case.faults):
+        return "a missing name after UPDATE OF is no fault there, and its trigger isn't read"
     names = [next((name for name, explains in REFUSED_HERE if explains(case, fault)), None) for fault in case.faults]
-    if not names:
-        # all that it stands on and sqlite3 refuses stands in bodies that sqlite3 doesn't look at
-        return REFUSED_HERE[0][0] if case.below and case.row.walk.withs else None
     return None if None in names else names[0]

@@ -172,8 +172,9 @@ class TextWalk(Walk):
         level = Level(all_binders_of([target, excluded]), outer)
         for upsert in tree.upserts:
             self.exprs(upsert.keys + [upsert.keys_where], keys, self.empty_sources())
-            self.sets(upsert.sets, target, level)
-            self.exprs([upsert.where], level, self.empty_sources())
+            with self.marked("upsert"):
+                self.sets(upsert.sets, target, level)
+                self.exprs([upsert.where], level, self.empty_sources())
 
 
 def all_binders_of(sources):
