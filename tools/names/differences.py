@@ -134,13 +134,27 @@ def items_of(tree):
 def made_up(case, fault):
     """An item without an alias that is an expression spelled so, or a text in double quotes, has that name in sqlite3."""
     if fault.use is None:
-        return fault.kind == "count"
+        return False
     last = fault.use.spelling()[-1]
     return any(item.expr is not None and item.alias is None and t.one_use(item.expr, True) is not None
                and row.walk.spells(t.one_use(item.expr, True).names[-1]) == last
                and (t.one_use(item.expr, False) is None or row.walk.uses_of.get(t.one_use(item.expr, False)) is None
                     or row.walk.uses_of[t.one_use(item.expr, False)].is_literal)
                for row in case.schema.rows for item in items_of(row.tree))
+
+
+def sights_of(fault):
+    """The sights of a fault's use, where it is a column-use."""
+    return fault.use.look(fault.use.spelling())[0] if fault.use is not None and fault.use.kind == "column" else []
+
+
+def of_joined_twins(_case, fault):
+    return len(sights_of(fault)) > 1 and any(sight.binder.wants_qualifier for sight in sights_of(fault))
+
+
+def of_second_column(_case, fault):
+    binders = [sight.binder for sight in sights_of(fault) if sight.binder.source is not None]
+    return any(each.name == binder.name for binder in binders for each in binder.source.columns[:binder.place])
 
 
 def in_upsert(_case, fault):
@@ -154,6 +168,8 @@ REFUSED_HERE = (
     ("ORDER BY of a trigger's own select isn't read there", in_order_of_statement),
     ("columns of a star are aliases in ORDER BY there", in_order_by),
     ("an upsert of a table without a key that can be met isn't read there", in_upsert),
+    ("two joined sources of one name, with a column that is joined", of_joined_twins),
+    ("a second column of a name in one source has another name there", of_second_column),
     ("a table function without parentheses is a source there", function_without_parentheses),
     ("arguments of a table function see all sources of the FROM there", in_arguments),
     ("ON sees aliases there", alias_in_on),
