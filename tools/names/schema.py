@@ -4,11 +4,11 @@ from typing import NamedTuple
 
 from names import trees as t
 from names.grammar import Parser, Syntax
-from names.scopes import ROWID_NAMES, Binder, Column, Level
+from names.scopes import Binder, Column, Level
 from names.statements import read_text
 from names.texts import TextWalk
 from names.tokens import first_too_deep, fold, tokens
-from names.uses import TABLE_FUNCTIONS, listed_columns
+from names.uses import listed_columns
 
 SCHEMA_TABLE = ("fixed", 0)
 FIXED_COLUMNS = {
