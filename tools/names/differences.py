@@ -274,4 +274,13 @@ def explained_by(case):
     if any(after_update_of(case, fault) for fault in case.faults):
         return "a missing name after UPDATE OF is no fault there, and its trigger isn't read"
     names = [next((name for name, explains in REFUSED_HERE if explains(case, fault)), None) for fault in case.faults]
-    return None if None in names else names[0]
+    known = {last_name(fault) for fault, name in zip(case.faults, names) if name is not None} - {None}
+    # an item that denotes nothing has no name, so a use of that name is a fault, too
+    if any(name is None and last_name(fault) not in known for fault, name in zip(case.faults, names)):
+        return None
+    return next(name for name in names if name is not None)
+
+
+def last_name(fault):
+    """The last name of a fault's use, or None."""
+    return fault.use.spelling()[-1] if fault.use is not None else None
