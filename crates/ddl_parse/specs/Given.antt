@@ -1,10 +1,11 @@
 -- What a function gives whose trees inside nest less deep than a bound.
-use Rattle.std.specs.Prelude.{List, Result, ℕ}
+use Rattle.std.specs.Prelude.{List, Result, Ok, Err, ℕ}
 use Rattle.sql_token.specs.declared.token.Token.{Token}
 use Rattle.sql_reader.specs.Cursor.{Gives}
 use Rattle.sql_reader.specs.Input.{Input}
 use Rattle.sql_reader.specs.Reading.{Read}
 use Rattle.sql_reader.specs.declared.error.ReadError.{ReadError}
+use Rattle.sql_reader.specs.declared.error.ReadError.TheVariants.{Memory, Syntax}
 use Rattle.sql_reader.specs.declared.sort.Sort.{Sort}
 use Rattle.query_reading.specs.Exprs.{Inner}
 use Rattle.query_reading.specs.Levels.{read_at}
@@ -21,3 +22,9 @@ GivesKeys levels read result old new = Gives (λ sort. read sort levels (read_at
 -- the same of a reading function that looks at words of the text
 abbrev pub GivesOver : {A : Type 0} → List ℕ → ℕ → ((Token → Sort) → Outer → Read A) → Result A ReadError → Input → Input → Type 0
 GivesOver text levels read result old new = Gives (λ sort. read sort (over text levels (read_at sort levels))) result old new
+
+-- where the answer is `Syntax`, this holds
+abbrev pub OnUnread : {A : Type 0} → Result A ReadError → Type 0 → Type 0
+OnUnread (Ok x) holds = Unit {0}
+OnUnread (Err (Memory fault)) holds = Unit {0}
+OnUnread (Err Syntax) holds = holds

@@ -8,7 +8,7 @@ ghost use Rattle.query_reading.specs.Levels.{read_at};
 ghost use Rattle.query_parse.specs.Answers.{OnSyntax, ReadsAll, TellsDepth};
 ghost use Rattle.table_reading.specs.Columns.{read_column, read_column_cons, read_column_constraints, read_default_value, read_expr_parens, read_generated_cons};
 ghost use Rattle.table_reading.specs.Handed.{over};
-ghost use Rattle.ddl_parse.specs.Given.{GivesAt, GivesOver};
+ghost use Rattle.ddl_parse.specs.Given.{GivesAt, GivesOver, OnUnread};
 
 use query_parse::{ParseError, check_nesting, nested_expr};
 use query_reading::opt_type;
@@ -31,6 +31,16 @@ pub fn parse_column(alloc: Global, text: &[u8], tokens: &[Token]) -> Result<Colu
 {
     check_nesting(alloc, text, tokens)?;
     Ok(whole_column(alloc, text, tokens)?)
+}
+
+/// The one column that these tokens of the text spell, which are looked through for no depth: for a part of a text whose levels
+/// are counted over the whole.
+pub fn read_column(alloc: Global, text: &[u8], tokens: &[Token]) -> Result<Column, ReadError>
+    ensures found { IfOk result (λ tree. SpellsColumn text.now tree tokens.now) }
+    ensures only { IfOk result (λ tree. (other : ColumnTree) → SpellsColumn text.now other tokens.now → other ≡ tree) }
+    ensures syntax { OnUnread result ((tree : ColumnTree) → SpellsColumn text.now tree tokens.now → ⊥) }
+{
+    whole_column(alloc, text, tokens)
 }
 
 /// The column that is read of all tokens. A tree nests less deep than it has tokens, so the bound is never met.

@@ -8,7 +8,7 @@ mod keys;
 mod tables;
 mod views;
 
-pub use columns::parse_column;
+pub use columns::{parse_column, read_column};
 pub use indexes::parse_index;
-pub use tables::parse_table;
+pub use tables::{parse_table, read_table};
 pub use views::parse_view;
