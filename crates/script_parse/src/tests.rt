@@ -26,20 +26,36 @@ fn a_script_is_read_or_refused_at_its_first_cause(rt: HostRuntime) -> Result<(),
     Ok(())
 }
 
+/// Whether the one command adds a column by this text.
+fn adds(rt: HostRuntime, script: &[u8], wanted: &[u8]) -> bool {
+    match parse_script(rt.alloc(), script) {
+        Ok(commands) => match commands.as_slice() {
+            [Command::Add { text, .. }] => text.as_slice() == wanted,
+            _ => false,
+        },
+        Err(_) => false,
+    }
+}
+
+/// Whether the one command renames this column to this name, written so.
+fn renames(rt: HostRuntime, script: &[u8], of: &[u8], to: &[u8], is_bare: bool) -> bool {
+    match parse_script(rt.alloc(), script) {
+        Ok(commands) => match commands.as_slice() {
+            [Command::RenameColumn { column, new, bare, .. }] => {
+                column.as_slice() == of && new.as_slice() == to && *bare == is_bare
+            }
+            _ => false,
+        },
+        Err(_) => false,
+    }
+}
+
 #[test]
 fn column_is_a_name_where_no_name_follows(rt: HostRuntime) -> Result<(), Fail> {
-    let text = b"ALTER TABLE t ADD column; ALTER TABLE t RENAME column TO \"x y\"";
-    let Ok(commands) = parse_script(rt.alloc(), text) else {
-        return Err(Fail);
-    };
-    match commands.as_slice() {
-        [Command::Add { text, .. }, Command::RenameColumn { column, new, bare, .. }] => {
-            assert_eq!(rt; text.as_slice(), b"column");
-            assert_eq!(rt; column.as_slice(), b"column");
-            assert_eq!(rt; new.as_slice(), b"x y");
-            assert!(rt; !*bare);
-        }
-        _ => assert!(rt; false),
-    }
+    assert!(rt; adds(rt, b"ALTER TABLE t ADD column;", b"column"));
+    assert!(rt; adds(rt, b"ALTER TABLE t ADD column int ;", b"int"));
+    assert!(rt; adds(rt, b"ALTER TABLE t ADD column \"x\" INT /* */ ;", b"\"x\" INT"));
+    assert!(rt; renames(rt, b"ALTER TABLE t RENAME column TO \"x y\"", b"column", b"x y", false));
+    assert!(rt; renames(rt, b"ALTER TABLE t RENAME column a TO b", b"a", b"b", true));
     Ok(())
 }
