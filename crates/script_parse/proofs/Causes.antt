@@ -7,7 +7,7 @@ use Rattle.sql_tree.specs.declared.command.Command.{Command}
 use Rattle.script_parse.specs.declared.error.Cause.{Cause}
 use Rattle.script_parse.specs.declared.error.Cause.TheVariants.{TooLong, BadToken, Depth, TooMany, Syntax}
 use Rattle.script_parse.specs.Script.{Holds, IsFirstCause, IsListFault, IsReadable, IsScript, IsShallow, IsTooMany, IsUnspelled, NeverHolds, pieces_of}
-use Rattle.script_parse.proofs.Pieces.{commands_not_too_many, commands_not_unspelled, one_too_many, one_unspelled}
+use Rattle.script_parse.proofs.Cuts.{commands_not_too_many, commands_not_unspelled, one_too_many, one_unspelled}
 use Rattle.script_parse.proofs.Tokens.{no_list, one_bad, one_depth, one_list}
 
 -- ---- one place
@@ -101,7 +101,7 @@ bad_first text at short bad = record { holds = bad; first = (never_long text sho
 pub deep_first : (text : List ℕ) (list : List Token) (at : ℕ) → length text ≤ 1048576 → AreTokens text list → FirstTooDeep text list at
     → IsFirstCause text at Depth
 deep_first text list at short tokens deep =
-    record { holds = (list, tokens, deep); first = (never_long text short, never_bad text list tokens, tt) }
+    record { holds = (list, tokens, deep); first = (never_long text short, (never_bad text list tokens, tt)) }
 
 pub list_first : (text : List ℕ) (list : List Token) (at : ℕ) (cause : Cause) → IsReadable text list → IsListFault text list at cause
     → IsFirstCause text at cause
@@ -111,10 +111,10 @@ list_first text list at Depth readable fault = absurd fault
 list_first text list at TooMany readable fault =
     record {
       holds = (list, readable.tokens, fault);
-      first = (never_long text readable.short, never_bad text list readable.tokens, never_deep text list readable.tokens readable.shallow, tt);
+      first = (never_long text readable.short, (never_bad text list readable.tokens, (never_deep text list readable.tokens readable.shallow, tt)));
     }
 list_first text list at Syntax readable fault =
     record {
       holds = (list, readable.tokens, fault.0);
-      first = (never_long text readable.short, never_bad text list readable.tokens, never_deep text list readable.tokens readable.shallow, never_too_many text list readable.tokens fault.1, tt);
+      first = (never_long text readable.short, (never_bad text list readable.tokens, (never_deep text list readable.tokens readable.shallow, (never_too_many text list readable.tokens fault.1, tt))));
     }

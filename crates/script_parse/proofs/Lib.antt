@@ -1,4 +1,4 @@
 pub mod Causes
-pub mod Pieces
+pub mod Cuts
 pub mod Tokens
 pub mod Turns

@@ -10,7 +10,7 @@ use Rattle.sql_tree.specs.declared.command.Command.{Command}
 use Rattle.script_parse.specs.Command.{IsCommand}
 use Rattle.script_parse.specs.declared.error.Cause.TheVariants.{Syntax}
 use Rattle.script_parse.specs.Script.{AreCommands, BeginsAt, IsListFault, IsSpelled, IsTooMany, IsUnspelled, behind_first, filled, first_piece, pieces_of}
-use Rattle.script_parse.proofs.Pieces.{all_behind_first, all_of_first, commands_first, commands_length, commands_not_too_many, commands_not_unspelled, commands_push, commands_spelled, pieces_cut}
+use Rattle.script_parse.proofs.Cuts.{all_behind_first, all_of_first, commands_first, commands_length, commands_not_too_many, commands_not_unspelled, commands_push, commands_spelled, pieces_cut}
 use Rattle.script_parse.proofs.Tokens.{all_stand}
 
 -- these commands are read, and these tokens are left
@@ -146,6 +146,7 @@ few_before text pieces at place bad few many =
 pub reads_fault : (text : List ℕ) (tokens rest : List Token) (commands : List Command) (t : Token) (ts : List Token)
     → Reads text tokens commands rest → first_piece text rest ≡ t ∷ ts → (IsSpelled text (t ∷ ts) → ⊥) → length commands < 10000
     → IsListFault text tokens t.start Syntax
+unfolding reads_unspelled
 reads_fault text tokens rest commands t ts reads piece fault few =
     let bad = reads_unspelled text tokens rest commands t ts reads piece fault in
     (bad, λ place. few_before text (pieces_of text tokens) t.start place bad (omega (arith, commands_length text reads.done commands reads.spelled, few)))
