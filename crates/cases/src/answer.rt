@@ -1,8 +1,11 @@
 //! What is answered to a case.
 
-use crate::field::Escaped;
+use crate::field::{Escaped, Hex};
+use record_codec::Value;
 use sql_token::{Token, TokenKind};
+use std::cmp::Ordering;
 use std::fmt;
+use value_order::Affinity;
 
 /// What a call gives, and how the line of the answer says it.
 #[derive(Drop)]
@@ -25,6 +28,14 @@ pub enum Answer {
     Depth(usize),
     /// No tree spells all tokens of the text.
     Syntax,
+    /// The affinity of a type text.
+    Affinity(Affinity),
+    /// A value.
+    Value(Value),
+    /// How the first value stands to the second.
+    Order(Ordering),
+    /// The answer depends on what number a real is.
+    NeedsReal,
     /// The line is no case.
     NoSuchCase,
 }
@@ -42,6 +53,10 @@ impl fmt::Display for Answer {
             Answer::Differs => f.write_str("differs"),
             Answer::Depth(at) => write!(f, "depth {at}"),
             Answer::Syntax => f.write_str("syntax"),
+            Answer::Affinity(affinity) => f.write_str(name_of_affinity(*affinity)),
+            Answer::Value(value) => write_value(f, value),
+            Answer::Order(ordering) => f.write_str(name_of_order(*ordering)),
+            Answer::NeedsReal => f.write_str("needs-real"),
             Answer::NoSuchCase => f.write_str("no such case"),
         }
     }
@@ -68,5 +83,34 @@ fn name_of_kind(kind: TokenKind) -> &'static str {
         TokenKind::Hex => "Hex",
         TokenKind::Float => "Float",
         TokenKind::Op => "Op",
+    }
+}
+
+/// A value, as a field of a case writes it.
+fn write_value<W: fmt::Write>(f: &mut fmt::Formatter<W>, value: &Value) -> fmt::Result {
+    match value {
+        Value::Null => f.write_str("null"),
+        Value::Int(number) => write!(f, "{number}"),
+        Value::Real(bytes) => write!(f, "real:{}", Hex(bytes)),
+        Value::Text(text) => write!(f, "'{}'", Escaped(text.as_slice())),
+        Value::Blob(bytes) => write!(f, "x'{}'", Hex(bytes.as_slice())),
+    }
+}
+
+fn name_of_affinity(affinity: Affinity) -> &'static str {
+    match affinity {
+        Affinity::Blob => "blob",
+        Affinity::Text => "text",
+        Affinity::Numeric => "numeric",
+        Affinity::Integer => "integer",
+        Affinity::Real => "real",
+    }
+}
+
+fn name_of_order(ordering: Ordering) -> &'static str {
+    match ordering {
+        Ordering::Less => "less",
+        Ordering::Equal => "equal",
+        Ordering::Greater => "greater",
     }
 }

@@ -6,6 +6,7 @@ ghost use Rattle.sql_token.specs.Token.{AreTokens};
 
 use crate::answer::Answer;
 use crate::field::{number, unescaped};
+use crate::values::{affinity, converted, order};
 use ddl_parse::{parse_column, parse_index, parse_table, parse_view};
 use query_parse::{ParseError, parse_expr, parse_select};
 use sql_token::{Token, TokenError, TokenKind, name_of, tokens};
@@ -16,13 +17,30 @@ use trigger_parse::parse_trigger;
 /// The answer to a line. A line of another form is no case.
 pub fn answer_to(alloc: Global, line: &[u8]) -> Result<Answer, AllocError> {
     let mut fields = line.split(|byte| *byte == b'\t');
-    let (Some(call), Some(field)) = (fields.next(), fields.next()) else {
+    let (Some(call), Some(first)) = (fields.next(), fields.next()) else {
         return Ok(Answer::NoSuchCase);
     };
-    let place = fields.next();
+    let second = fields.next();
+    let third = fields.next();
     if fields.next().is_some() {
         return Ok(Answer::NoSuchCase);
     }
+    match (call, second, third) {
+        (b"affinity", None, None) => affinity(alloc, first),
+        (b"apply", Some(to), Some(before)) => converted(alloc, first, to, before),
+        (b"compare", Some(a), Some(b)) => order(alloc, first, a, b),
+        (call, place, None) => answer_of_text(alloc, call, first, place),
+        _ => Ok(Answer::NoSuchCase),
+    }
+}
+
+/// The answer to a call on the tokens of a text.
+fn answer_of_text(
+    alloc: Global,
+    call: &[u8],
+    field: &[u8],
+    place: Option<&[u8]>,
+) -> Result<Answer, AllocError> {
     let Some(text) = unescaped(alloc, field)? else {
         return Ok(Answer::NoSuchCase);
     };

@@ -29,11 +29,16 @@ fn first_byte(field: &[u8]) -> Option<(u8, usize)>
         [b'\\', b't', ..] => Some((b'\t', 2)),
         [b'\\', b'n', ..] => Some((b'\n', 2)),
         [b'\\', b'r', ..] => Some((b'\r', 2)),
-        [b'\\', b'x', high, low, ..] => Some((hex_digit(*high)? * 16 + hex_digit(*low)?, 4)),
+        [b'\\', b'x', high, low, ..] => Some((byte_of(*high, *low)?, 4)),
         [b'\\', ..] => None,
         [byte, ..] => Some((*byte, 1)),
         [] => None,
     }
+}
+
+/// The byte that two hexadecimal digits write.
+pub fn byte_of(high: u8, low: u8) -> Option<u8> {
+    Some(hex_digit(high)? * 16 + hex_digit(low)?)
 }
 
 /// The number of a hexadecimal digit.
@@ -68,6 +73,19 @@ impl fmt::Display for Escaped<'_> {
                 b' '..=b'~' => write!(f, "{}", *byte as char)?,
                 other => write!(f, "\\x{other:02x}")?,
             }
+        }
+        Ok(())
+    }
+}
+
+/// Bytes, written as two hexadecimal digits each.
+#[derive(Clone, Copy)]
+pub struct Hex<'a>(pub &'a [u8]);
+
+impl fmt::Display for Hex<'_> {
+    fn fmt<W: fmt::Write>(&self, f: &mut fmt::Formatter<W>) -> fmt::Result {
+        for byte in self.0 {
+            write!(f, "{byte:02x}")?;
         }
         Ok(())
     }

@@ -5,6 +5,7 @@
 mod answer;
 mod calls;
 mod field;
+mod values;
 
 use calls::answer_to;
 use std::io::{self, BufRead, BufReader};

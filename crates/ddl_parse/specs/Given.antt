@@ -1,5 +1,5 @@
 -- What a function gives whose trees inside nest less deep than a bound.
-use Rattle.std.specs.Prelude.{List, Result, Ok, Err, ℕ}
+use Rattle.std.specs.Prelude.{◌≡◌, List, Result, Ok, Err, ℕ}
 use Rattle.sql_token.specs.declared.token.Token.{Token}
 use Rattle.sql_reader.specs.Cursor.{Gives}
 use Rattle.sql_reader.specs.Input.{Input}
@@ -23,8 +23,8 @@ GivesKeys levels read result old new = Gives (λ sort. read sort levels (read_at
 abbrev pub GivesOver : {A : Type 0} → List ℕ → ℕ → ((Token → Sort) → Outer → Read A) → Result A ReadError → Input → Input → Type 0
 GivesOver text levels read result old new = Gives (λ sort. read sort (over text levels (read_at sort levels))) result old new
 
--- where the answer is `Syntax`, this holds
-abbrev pub OnUnread : {A : Type 0} → Result A ReadError → Type 0 → Type 0
-OnUnread (Ok x) holds = Unit {0}
-OnUnread (Err (Memory fault)) holds = Unit {0}
-OnUnread (Err Syntax) holds = holds
+-- the answer is this tree, unless memory ran out
+abbrev pub IsReadAs : {A : Type 0} → A → Result A ReadError → Type 0
+IsReadAs tree (Ok x) = x ≡ tree
+IsReadAs tree (Err (Memory fault)) = Unit {0}
+IsReadAs tree (Err Syntax) = ⊥

@@ -8,7 +8,7 @@ ghost use Rattle.query_reading.specs.Levels.{read_at};
 ghost use Rattle.query_parse.specs.Answers.{OnSyntax, ReadsAll, TellsDepth};
 ghost use Rattle.table_reading.specs.Columns.{read_column, read_column_cons, read_column_constraints, read_default_value, read_expr_parens, read_generated_cons};
 ghost use Rattle.table_reading.specs.Handed.{over};
-ghost use Rattle.ddl_parse.specs.Given.{GivesAt, GivesOver, OnUnread};
+ghost use Rattle.ddl_parse.specs.Given.{GivesAt, GivesOver, IsReadAs};
 
 use query_parse::{ParseError, check_nesting, nested_expr};
 use query_reading::opt_type;
@@ -33,12 +33,11 @@ pub fn parse_column(alloc: Global, text: &[u8], tokens: &[Token]) -> Result<Colu
     Ok(whole_column(alloc, text, tokens)?)
 }
 
-/// The one column that these tokens of the text spell, which are looked through for no depth: for a part of a text whose levels
-/// are counted over the whole.
+/// The one column that all these tokens of the text spell, however deep they nest: for a part of a text whose levels are counted
+/// over the whole. `Syntax` comes exactly where no column is spelled.
 pub fn read_column(alloc: Global, text: &[u8], tokens: &[Token]) -> Result<Column, ReadError>
     ensures found { IfOk result (λ tree. SpellsColumn text.now tree tokens.now) }
-    ensures only { IfOk result (λ tree. (other : ColumnTree) → SpellsColumn text.now other tokens.now → other ≡ tree) }
-    ensures syntax { OnUnread result ((tree : ColumnTree) → SpellsColumn text.now tree tokens.now → ⊥) }
+    ensures only { (tree : ColumnTree) → SpellsColumn text.now tree tokens.now → IsReadAs tree result }
 {
     whole_column(alloc, text, tokens)
 }

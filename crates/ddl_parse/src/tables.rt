@@ -10,7 +10,7 @@ ghost use Rattle.query_parse.specs.Answers.{OnSyntax, ReadsAll, TellsDepth};
 ghost use Rattle.table_reading.specs.Columns.{next_column_starts, read_columns, read_more_columns, read_next_column};
 ghost use Rattle.table_reading.specs.Handed.{over};
 ghost use Rattle.table_reading.specs.Tables.{read_create_table, read_table_body};
-ghost use Rattle.ddl_parse.specs.Given.{GivesOver, OnUnread};
+ghost use Rattle.ddl_parse.specs.Given.{GivesOver, IsReadAs};
 
 use crate::columns::column;
 use crate::constraints::opt_constraints;
@@ -35,12 +35,11 @@ pub fn parse_table(alloc: Global, text: &[u8], tokens: &[Token]) -> Result<Creat
     Ok(whole_table(alloc, text, tokens)?)
 }
 
-/// The one table that these tokens of the text spell, which are looked through for no depth: for a part of a text whose levels
-/// are counted over the whole.
+/// The one table that all these tokens of the text spell, however deep they nest: for a part of a text whose levels are counted
+/// over the whole. `Syntax` comes exactly where no table is spelled.
 pub fn read_table(alloc: Global, text: &[u8], tokens: &[Token]) -> Result<CreateTable, ReadError>
     ensures found { IfOk result (λ tree. SpellsTable text.now tree tokens.now) }
-    ensures only { IfOk result (λ tree. (other : TableTree) → SpellsTable text.now other tokens.now → other ≡ tree) }
-    ensures syntax { OnUnread result ((tree : TableTree) → SpellsTable text.now tree tokens.now → ⊥) }
+    ensures only { (tree : TableTree) → SpellsTable text.now tree tokens.now → IsReadAs tree result }
 {
     whole_table(alloc, text, tokens)
 }

@@ -3,7 +3,7 @@ use Rattle.std.proofs.Common.{◌≡◌, ℕ, ◌+◌, ◌-◌, ◌<◌, ◌≤�
 use Rattle.alter_bytes.specs.Varint.{IsVarint}
 use Rattle.record_codec.specs.declared.value.Value.{Value}
 use Rattle.record_codec.specs.Serial.{IsBody, body_size}
-use Rattle.record_codec.specs.Record.{AreBodies, AreSerials, HasHeader, IsRecord}
+use Rattle.record_codec.specs.Record.{AreBodies, AreSerials, HasHeader, HaveValues}
 use Rattle.record_codec.specs.Faults.{BeginsNoSerial, IsBodyFault, IsShortBody, IsSurplus}
 use Rattle.record_codec.proofs.Fronts.{bodies_push, header_length, next_serial, no_more_serials}
 
@@ -53,18 +53,11 @@ place_of bytes all_types all_bodies types bodies values h l =
     omega (arith, header_length bytes all_types all_bodies h, ap length l.whole, length-append l.before bodies)
 
 -- nothing is left
-pub left_record : (bytes all_types all_bodies types bodies : List ℕ) (values : List Value) → HasHeader bytes all_types all_bodies
-    → IsLeft all_types all_bodies types bodies values → BeginsNoSerial types → bodies ≡ [] → IsRecord bytes values
-left_record bytes all_types all_bodies types bodies values h l none empty =
+pub left_values : (all_types all_bodies types bodies : List ℕ) (values : List Value) → IsLeft all_types all_bodies types bodies values → BeginsNoSerial types
+    → bodies ≡ [] → HaveValues all_types all_bodies
+left_values all_types all_bodies types bodies values l none empty =
     let all : l.before ≡ all_bodies = sym (l.whole ∙ ap (λ x. l.before ++ x) empty ∙ append-nil l.before) in
-    record {
-      types = all_types;
-      bodies = all_bodies;
-      serials = l.serials;
-      header = h;
-      types_are = all_read all_types all_bodies types bodies values l none;
-      bodies_are = subst (λ x. AreBodies l.serials values x) all l.so_far;
-    }
+    (values, (l.serials, all_read all_types all_bodies types bodies values l none, subst (λ x. AreBodies l.serials values x) all l.so_far))
 
 -- bytes are left behind the last body
 pub left_surplus : (bytes all_types all_bodies types bodies : List ℕ) (values : List Value) → HasHeader bytes all_types all_bodies

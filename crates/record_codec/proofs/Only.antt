@@ -1,16 +1,11 @@
 -- Bytes are a record of one list of values, or have one first fault, and not both.
 use Rattle.std.proofs.Common.{◌≡◌, ℕ, ◌<◌, ◌⊎◌, inl, inr, List, [], ◌∷◌, ◌++◌, length, refl, sym, ap, ap₂, subst, ◌∙◌, arith, append-nil, length-append, append_assoc}
-use Rattle.std.specs.Prelude.{Option, Some, None, Result, Ok, Err, IfSome, IfNone, IfOk, IfErr}
-use Rattle.std.specs.Option.{IsSomeAnd}
-use Rattle.common_laws.specs.Results.{Yields}
 use Rattle.common_laws.proofs.Lists.{same_front}
 use Rattle.alter_bytes.proofs.VarintLemmas.{one_form}
 use Rattle.record_codec.specs.declared.value.Value.{Value}
-use Rattle.record_codec.specs.declared.error.RecordError.{RecordError}
-use Rattle.record_codec.specs.declared.error.RecordError.TheVariants.{Memory, Bad}
 use Rattle.record_codec.specs.Serial.{body_size, value_of}
-use Rattle.record_codec.specs.Record.{AreBodies, AreSerials, HasHeader, IsRecord}
-use Rattle.record_codec.specs.Faults.{BeginsNoSerial, FirstBad, IsBadSerial, IsBodyFault, IsMemory, IsShortBody, IsSurplus, OnBad}
+use Rattle.record_codec.specs.Record.{AreBodies, AreSerials, AreValues, HasHeader, HaveValues, IsRecord}
+use Rattle.record_codec.specs.Faults.{BeginsNoSerial, FirstBad, IsBadSerial, IsShortBody, IsSurplus}
 use Rattle.record_codec.proofs.Fronts.{nothing_begins, one_header, same_back}
 
 -- the serial types in front are one list
@@ -113,8 +108,7 @@ surplus_end types bodies rest s = record {
 }
 
 -- a record's header and its bodies, under another name for the same bytes
-moved : (bytes types bodies : List ℕ) (values : List Value) → HasHeader bytes types bodies → IsRecord bytes values
-    → (serials : List ℕ) × AreSerials serials types × AreBodies serials values bodies
+pub moved : (bytes types bodies : List ℕ) (values : List Value) → HasHeader bytes types bodies → IsRecord bytes values → AreValues types bodies values
 moved bytes types bodies values h r =
     let same = one_header bytes r.types r.bodies types bodies r.header h in
     (r.serials, subst (λ l. AreSerials r.serials l) same.0 r.types_are, subst (λ l. AreBodies r.serials values l) same.1 r.bodies_are)
@@ -186,24 +180,15 @@ one_bad bytes at place (inr a) (inr b) =
     subst (λ l. IsShortBody a.0 l b.2 ⊎ IsSurplus a.0 l b.2) same.1 (subst (λ l. IsShortBody l b.1 b.2 ⊎ IsSurplus l b.1 b.2) same.0 b.4) in
     omega (arith, a.5, b.5, ap length (body_left a.0 a.1 a.2 b.2 a.4 fault))
 
--- what was found of the bodies is all that there is
-pub bad_only : (bytes : List ℕ) (r : Option ℕ) → IfSome r (IsBodyFault bytes) → IfNone r ((values : List Value) × IsRecord bytes values)
-    → (at : ℕ) → FirstBad bytes at → IsSomeAnd r (λ place. place ≡ at)
-bad_only bytes None bad whole at fault = absurd (record_not_bad bytes whole.0 at whole.1 fault)
-bad_only bytes (Some place) bad whole at fault = one_bad bytes place at (inr bad) fault
+-- a header and the values of its bodies make a record, which has no fault
+pub parts_record : (bytes types bodies : List ℕ) (values : List Value) → HasHeader bytes types bodies → AreValues types bodies values → IsRecord bytes values
+parts_record bytes types bodies values h are =
+    record { types = types; bodies = bodies; serials = are.0; header = h; types_are = are.1; bodies_are = are.2 }
 
-pub none_only : (bytes : List ℕ) (r : Option ℕ) → IfSome r (IsBodyFault bytes) → (values : List Value) → IsRecord bytes values → r ≡ None
-none_only bytes None bad values is = refl
-none_only bytes (Some place) bad values is = absurd (record_not_bad bytes values place is (inr bad))
+pub parts_not_bad : (bytes types bodies : List ℕ) → HasHeader bytes types bodies → HaveValues types bodies → (at : ℕ) → FirstBad bytes at → ⊥
+parts_not_bad bytes types bodies h have at fault = record_not_bad bytes have.0 at (parts_record bytes types bodies have.0 h have.1) fault
 
-pub read_only : {T : Type 0} (items : T → List Value) (bytes : List ℕ) (r : Result T RecordError) → IfOk r (λ read. IsRecord bytes (items read))
-    → IfErr r (OnBad (IsBodyFault bytes)) → (values : List Value) → IsRecord bytes values → Yields IsMemory (λ read. items read ≡ values) r
-read_only items bytes (Ok read) found bad values is = one_record bytes (items read) values found is
-read_only items bytes (Err (Memory fault)) found bad values is = tt
-read_only items bytes (Err (Bad at)) found bad values is = record_not_bad bytes values at is (inr bad)
-
-pub read_first : {T : Type 0} (items : T → List Value) (bytes : List ℕ) (r : Result T RecordError) → IfOk r (λ read. IsRecord bytes (items read))
-    → IfErr r (OnBad (IsBodyFault bytes)) → (at : ℕ) → FirstBad bytes at → Yields (OnBad (λ place. place ≡ at)) (λ read. ⊥) r
-read_first items bytes (Ok read) found bad at fault = record_not_bad bytes (items read) at found fault
-read_first items bytes (Err (Memory fault)) found bad at wrong = tt
-read_first items bytes (Err (Bad place)) found bad at fault = one_bad bytes place at (inr bad) fault
+-- what is read of them is all that there is
+pub parts_only : (bytes types bodies : List ℕ) (read : List Value) → HasHeader bytes types bodies → AreValues types bodies read
+    → (values : List Value) → IsRecord bytes values → read ≡ values
+parts_only bytes types bodies read h are values is = one_record bytes read values (parts_record bytes types bodies read h are) is

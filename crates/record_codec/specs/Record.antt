@@ -18,6 +18,19 @@ AreBodies (serial ∷ serials) (value ∷ values) bytes =
 AreBodies [] (value ∷ values) bytes = ⊥
 AreBodies (serial ∷ serials) [] bytes = ⊥
 
+-- the values of these serial types and bodies
+abbrev pub AreValues : List ℕ → List ℕ → List Value → Type 0
+AreValues types bodies values = (serials : List ℕ) × AreSerials serials types × AreBodies serials values bodies
+
+abbrev pub HaveValues : List ℕ → List ℕ → Type 0
+HaveValues types bodies = (values : List Value) × AreValues types bodies values
+
+-- the first of these values is this one, and the serial types and the bodies behind it are those of the others
+pub record IsFront (types bodies : List ℕ) (value : Value) (others behind : List ℕ) : Type 0 where
+  pub more : HaveValues others behind
+  pub there : (values : List Value) → AreValues others behind values → AreValues types bodies (value ∷ values)
+  pub only : (first : Value) (values : List Value) → AreValues types bodies (first ∷ values) → (first ≡ value) × AreValues others behind values
+
 -- the header, which begins with its size, itself included; then its serial types, and behind it the bodies
 pub record HasHeader (bytes types bodies : List ℕ) : Type 0 where
   pub size_field : List ℕ

@@ -69,10 +69,18 @@ pub fn body_front(serial: u64, bodies: &[u8]) -> Option<(&[u8], &[u8])>
     ensures found { IfSome result (λ front. (bodies.now ≡ front.0.now ++ front.1.now) × (length front.0.now ≡ body_size serial)) }
     ensures none { IfNone result (length bodies.now < body_size serial) }
 {
-    let len = body_len(serial);
-    if len <= bodies.len() as u64 {
-        Some(bodies.split_at(len as usize))
+    if body_len(serial) <= bodies.len() as u64 {
+        Some(split_body(serial, bodies))
     } else {
         None
     }
+}
+
+/// The same of a body that is there.
+pub fn split_body(serial: u64, bodies: &[u8]) -> (&[u8], &[u8])
+    requires { body_size serial ≤ length bodies.now }
+    ensures whole { bodies.now ≡ result.0.now ++ result.1.now }
+    ensures size { length result.0.now ≡ body_size serial }
+{
+    bodies.split_at(body_len(serial) as usize)
 }

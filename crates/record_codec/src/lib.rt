@@ -3,6 +3,7 @@
 
 mod error;
 mod fields;
+mod in_place;
 mod reading;
 mod serial;
 #[cfg(test)]
@@ -11,6 +12,7 @@ mod value;
 mod writing;
 
 pub use error::RecordError;
-pub use reading::{decode, first_bad};
+pub use in_place::{int_front, text_front};
+pub use reading::{decode, first_bad, record_parts};
 pub use value::Value;
-pub use writing::encode;
+pub use writing::{encode, push_varint};

@@ -61,8 +61,8 @@ fn size_len(types: usize) -> usize
     }
 }
 
-/// Adds the shortest varint of the number.
-fn push_varint(number: u64, bytes: &mut Vec<u8>) -> Result<(), AllocError>
+/// Adds the shortest varint of the number (fileformat2.html, "Record Format").
+pub fn push_varint(number: u64, bytes: &mut Vec<u8>) -> Result<(), AllocError>
     ensures { OnOk result (bytes.new.items ≡ bytes.old.items ++ varint number) }
 {
     let mut field = [0; 9];

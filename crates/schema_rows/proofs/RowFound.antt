@@ -1,39 +1,12 @@
 -- A row against the values of its record.
-use Rattle.std.proofs.Common.{[], ◌∷◌, ◌++◌, ◌+◌, ◌==◌, ◌%◌, ◌≤◌, length-append, length, arith, pos, codes, nat_lt, if◌then◌else◌, ◌<◌, ◌^◌, Option, Some, None, IfSome, ◌≡◌, ℕ, Bool, true, false, List, sym, ap, ap₂, subst, ◌∙◌}
-use Rattle.std.proofs.lemmas.List.{same_from_push}
+use Rattle.std.proofs.Common.{[], ◌∷◌, ◌++◌, ◌+◌, ◌==◌, ◌%◌, ◌≤◌, length-append, length, arith, pos, nat_lt, if◌then◌else◌, ◌≡◌, ℕ, ℤ, Bool, true, false, List, sym, ap, subst, ◌∙◌}
 use Rattle.record_codec.specs.declared.value.Value.{Value}
 use Rattle.record_codec.specs.declared.value.Value.TheVariants.{Null, Int, Real, Text, Blob}
 use Rattle.record_codec.specs.Serial.{value_of}
 use Rattle.record_codec.specs.Record.{AreBodies, IsRecord}
-use Rattle.schema_rows.specs.Schema.{row_values}
+use Rattle.record_codec.proofs.Only.{one_record}
+use Rattle.schema_rows.specs.Schema.{row_values, table_values}
 use Rattle.schema_rows.specs.declared.schema.SchemaRow.{SchemaRow}
-
--- the values of a row in front of its text, of its root, of its tbl_name, of its name
-module _ (row : SchemaRow) where
-  abbrev pub before_name : List Value
-  before_name = Text (codes "table") ∷ []
-
-  abbrev pub before_table : List Value
-  before_table = Text (codes "table") ∷ Text row.name ∷ []
-
-  abbrev pub before_root : List Value
-  before_root = Text (codes "table") ∷ Text row.name ∷ Text row.table ∷ []
-
-  abbrev pub before_text : List Value
-  before_text = Text (codes "table") ∷ Text row.name ∷ Text row.table ∷ Int (pos row.root) ∷ []
-
--- what is left of a list whose last value is taken
-pub left_of : (all left front : List Value) (x y : Value) → all ≡ left ++ x ∷ [] → all ≡ front ++ y ∷ [] → left ≡ front
-left_of all left front x y popped is = (same_from_push left front x y (sym popped ∙ is)).0
-
--- the values of a row, taken from the last on until none is left
-pub whole_row : (row : SchemaRow) (kind : List ℕ) (all a b c d e : List Value) → all ≡ a ++ Text row.text ∷ [] → a ≡ b ++ Int (pos row.root) ∷ []
-    → b ≡ c ++ Text row.table ∷ [] → c ≡ d ++ Text row.name ∷ [] → d ≡ e ++ Text kind ∷ [] → e ≡ [] → kind ≡ codes "table" → all ≡ row_values row
-whole_row row kind all a b c d e at_text at_root at_table at_name at_kind none is =
-    let behind : List Value → Value → List Value = λ front value. front ++ value ∷ [] in
-    let first : d ≡ before_name row = at_kind ∙ ap₂ behind none (ap (λ (k : List ℕ). Text k) is) in
-    at_text ∙ ap (λ (l : List Value). behind l (Text row.text)) (at_root ∙ ap (λ (l : List Value). behind l (Int (pos row.root)))
-    (at_table ∙ ap (λ (l : List Value). behind l (Text row.table)) (at_name ∙ ap (λ (l : List Value). behind l (Text row.name)) first)))
 
 -- how many bytes a text has
 abbrev pub text_length : Value → ℕ
@@ -69,13 +42,33 @@ bodies-le (serial ∷ serials) (value ∷ values) bytes are =
 bodies-le [] (value ∷ values) bytes are = absurd are
 bodies-le (serial ∷ serials) [] bytes are = absurd are
 
-row-le : (payload : List ℕ) (row : SchemaRow) → IsRecord payload (row_values row) → length row.name + length row.table + length row.text ≤ length payload
-row-le payload row is =
-    omega (arith, ap length is.header.whole, length-append (is.header.size_field ++ is.types) is.bodies, bodies-le is.serials (row_values row) is.bodies is.bodies_are)
+pub texts-le : (payload name table : List ℕ) (root : ℕ) (text : List ℕ) → IsRecord payload (table_values name table root text)
+    → length name + length table + length text ≤ length payload
+texts-le payload name table root text is =
+    omega (arith, ap length is.header.whole, length-append (is.header.size_field ++ is.types) is.bodies, bodies-le is.serials (table_values name table root text) is.bodies is.bodies_are)
 
--- the texts of a row that is read are no longer than its record
-pub texts-le : (rowid : ℕ) (payload : List ℕ) (values : List Value) (read : Option SchemaRow) → IsRecord payload values
-    → IfSome read (λ row. (row.rowid ≡ rowid) × (row.root < 2 ^ 31) × (values ≡ row_values row))
-    → IfSome read (λ row. length row.name + length row.table + length row.text ≤ length payload)
-texts-le rowid payload values None is found = found
-texts-le rowid payload values (Some row) is found = row-le payload row (subst (IsRecord payload) found.2 is)
+-- the parts of equal values are equal
+pub same_text : (a b : List ℕ) → Text a ≡ Text b → a ≡ b
+same_text a b same = cc
+
+pub same_integer : (a b : ℤ) → Int a ≡ Int b → a ≡ b
+same_integer a b same = cc
+
+-- rows of the same record are the same
+same_row : (rowid : ℕ) (name table : List ℕ) (root : ℕ) (text : List ℕ) (row : SchemaRow) → rowid ≡ row.rowid → table_values name table root text ≡ row_values row
+    → record { rowid = rowid; name = name; table = table; root = root; text = text } ≡ row
+same_row rowid name table root text row at same =
+    let of : ℕ → List ℕ → List ℕ → ℕ → List ℕ → SchemaRow = λ r n t o x. record { rowid = r; name = n; table = t; root = o; text = x } in
+    let names : name ≡ row.name = cc in
+    let tables : table ≡ row.table = cc in
+    let roots : root ≡ row.root = cc in
+    let texts : text ≡ row.text = cc in
+    ap (λ r. of r name table root text) at ∙ ap (λ n. of row.rowid n table root text) names ∙ ap (λ t. of row.rowid row.name t root text) tables
+    ∙ ap (λ o. of row.rowid row.name row.table o text) roots ∙ ap (of row.rowid row.name row.table row.root) texts
+
+pub one_row : (payload : List ℕ) (rowid root : ℕ) (name table text n t x : List ℕ) (row : SchemaRow) → name ≡ n → table ≡ t → text ≡ x
+    → IsRecord payload (table_values n t root x) → row.rowid ≡ rowid → IsRecord payload (row_values row)
+    → record { rowid = rowid; name = name; table = table; root = root; text = text } ≡ row
+one_row payload rowid root name table text n t x row names tables texts is at also =
+    let same : table_values n t root x ≡ row_values row = one_record payload (table_values n t root x) (row_values row) is also in
+    same_row rowid name table root text row (sym at) cc

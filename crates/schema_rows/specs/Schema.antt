@@ -7,8 +7,11 @@ use Rattle.record_codec.specs.Written.{record_of}
 use Rattle.schema_rows.specs.declared.schema.SchemaRow.{SchemaRow}
 
 -- what the record of a table's row says: type, name, tbl_name, rootpage and sql
+abbrev pub table_values : List ℕ → List ℕ → ℕ → List ℕ → List Value
+table_values name table root text = Text (codes "table") ∷ Text name ∷ Text table ∷ Int (pos root) ∷ Text text ∷ []
+
 abbrev pub row_values : SchemaRow → List Value
-row_values row = Text (codes "table") ∷ Text row.name ∷ Text row.table ∷ Int (pos row.root) ∷ Text row.text ∷ []
+row_values row = table_values row.name row.table row.root row.text
 
 -- the record of a row in its shortest form, under serial types that every schema format has
 unfoldable pub row_record : SchemaRow → List ℕ

@@ -1,15 +1,12 @@
 //! The rows of the schema table that stand for tables.
-ghost use Rattle.std.specs.Prelude.{◌≡◌, ◌<◌, ◌≤◌, ◌+◌, ◌^◌, ◌++◌, ◌∷◌, [], ℕ, List, pos, length, IfOk, OnOk, IfSome, IfNone};
+ghost use Rattle.std.specs.Prelude.{◌≡◌, ◌<◌, ◌≤◌, ◌+◌, ◌^◌, ℕ, List, pos, length, Ok, None, IfOk, IfSome, IfNone};
 ghost use Rattle.std.specs.Option.{IsSomeAnd};
 ghost use Rattle.common_laws.specs.Results.{AnyError, Yields};
-ghost use Rattle.alter_bytes.specs.Varint.{varint};
 ghost use Rattle.record_codec.specs.Record.{IsRecord};
-ghost use Rattle.record_codec.specs.declared.value.Value.{Value};
-ghost use Rattle.record_codec.specs.declared.value.Value.TheVariants.{Int, Text};
 ghost use Rattle.schema_rows.specs.Schema as spec;
 
-use alter_bytes::{Bytes, write_varint};
-use record_codec::{RecordError, Value, decode, encode};
+use alter_bytes::Bytes;
+use record_codec::{Value, encode, int_front, push_varint, record_parts, text_front};
 use std::alloc::{AllocError, Global};
 
 /// A table's row of the schema table (fileformat2.html, "Storage Of The SQL Database Schema").
@@ -25,7 +22,8 @@ pub struct SchemaRow {
     pub text: Bytes,
 }
 
-/// The row of this rowid, or `None` where the payload is no record of a table's row with a root below 2^31.
+/// The row of this rowid, or `None` where the payload is no record of a table's row with a root below 2^31. Memory is
+/// taken for a row alone.
 pub fn read_schema_row(
     alloc: Global,
     rowid: u32,
@@ -35,67 +33,54 @@ pub fn read_schema_row(
     ensures limit { IfOk result (λ read. IfSome read (λ row. row.root < 2 ^ 31)) }
     ensures lengths { IfOk result (λ read. IfSome read (λ row. length row.name + length row.table + length row.text ≤ length payload.now)) }
     ensures only { (row : SchemaRow) → row.rowid ≡ rowid → row.root < 2 ^ 31 → IsRecord payload.now (spec.row_values row) → Yields AnyError (λ read. IsSomeAnd read (λ found. found ≡ row)) result }
+    ensures bad { ((row : SchemaRow) → row.rowid ≡ rowid → row.root < 2 ^ 31 → IsRecord payload.now (spec.row_values row) → ⊥) → result ≡ Ok None }
 {
-    match decode(alloc, payload) {
-        Ok(values) => Ok(row_of(rowid, values)),
-        Err(RecordError::Memory(fault)) => Err(fault),
-        Err(RecordError::Bad(_)) => Ok(None),
-    }
+    let Some((name, table, root, text)) = row_parts(payload) else {
+        return Ok(None);
+    };
+    let name = Bytes::from_slice(alloc, name)?;
+    let table = Bytes::from_slice(alloc, table)?;
+    let text = Bytes::from_slice(alloc, text)?;
+    Ok(Some(SchemaRow {
+        rowid,
+        name,
+        table,
+        root,
+        text,
+    }))
 }
 
-/// The row that these values are.
-fn row_of(rowid: u32, values: Vec<Value>) -> Option<SchemaRow>
-    ensures found { IfSome result (λ row. (row.rowid ≡ rowid) × (row.root < 2 ^ 31) × (values.items ≡ spec.row_values row)) }
-    ensures only { (row : SchemaRow) → row.rowid ≡ rowid → row.root < 2 ^ 31 → values.items ≡ spec.row_values row → result ≡ Some row }
+/// The name, `tbl_name`, root and text of a table's row in its record.
+fn row_parts(payload: &[u8]) -> Option<(&[u8], &[u8], u32, &[u8])>
+    ensures found { IfSome result (λ parts. (parts.2 < 2 ^ 31) × IsRecord payload.now (spec.table_values parts.0.now parts.1.now parts.2 parts.3.now)) }
+    ensures none { IfNone result ((name table : List ℕ) (root : ℕ) (text : List ℕ) → root < 2 ^ 31 → IsRecord payload.now (spec.table_values name table root text) → ⊥) }
 {
-    let mut left = values;
-    let text = pop_text(&mut left)?;
-    let root = pop_root(&mut left)?;
-    let table = pop_text(&mut left)?;
-    let name = pop_text(&mut left)?;
-    let kind = pop_text(&mut left)?;
-    if left.is_empty() && kind.as_slice() == b"table".as_slice() {
-        Some(SchemaRow {
-            rowid,
-            name,
-            table,
-            root,
-            text,
-        })
+    let Ok((types, bodies)) = record_parts(payload) else {
+        return None;
+    };
+    let (kind, types, bodies) = text_front(types, bodies)?;
+    let (name, types, bodies) = text_front(types, bodies)?;
+    let (table, types, bodies) = text_front(types, bodies)?;
+    let (number, types, bodies) = int_front(types, bodies)?;
+    let root = page_number(number)?;
+    let (text, types, _) = text_front(types, bodies)?;
+    if types.is_empty() && kind == b"table".as_slice() {
+        Some((name, table, root, text))
     } else {
         None
     }
 }
 
-/// Takes the last value, where it is a text.
-fn pop_text(values: &mut Vec<Value>) -> Option<Bytes>
-    ensures text { IfSome result (λ text. values.old.items ≡ values.new.items ++ Text text ∷ []) }
-    ensures none { IfNone result ((front : List Value) (text : List ℕ) → values.old.items ≡ front ++ Text text ∷ [] → ⊥) }
+/// The page number that an integer is: one from 0 on below 2^31.
+fn page_number(number: i64) -> Option<u32>
+    ensures found { IfSome result (λ root. (root < 2 ^ 31) × (number ≡ pos root)) }
+    ensures none { IfNone result ((root : ℕ) → root < 2 ^ 31 → number ≡ pos root → ⊥) }
 {
-    match values.pop() {
-        Some(Value::Text(text)) => Some(text),
-        _ => None,
+    if 0 <= number && number < 1 << 31 {
+        Some(number as u32)
+    } else {
+        None
     }
-}
-
-/// Takes the last value, where it is a page number: an integer from 0 on below 2^31.
-fn pop_root(values: &mut Vec<Value>) -> Option<u32>
-    ensures root { IfSome result (λ root. (root < 2 ^ 31) × (values.old.items ≡ values.new.items ++ Int (pos root) ∷ [])) }
-    ensures none { IfNone result ((front : List Value) (root : ℕ) → root < 2 ^ 31 → values.old.items ≡ front ++ Int (pos root) ∷ [] → ⊥) }
-{
-    match values.pop() {
-        Some(Value::Int(root)) if 0 <= root && root < 1 << 31 => Some(root as u32),
-        _ => None,
-    }
-}
-
-/// Adds the shortest varint of the number.
-fn push_varint(number: u64, bytes: &mut Vec<u8>) -> Result<(), AllocError>
-    ensures { OnOk result (bytes.new.items ≡ bytes.old.items ++ varint number) }
-{
-    let mut field = [0u8; 9];
-    let length = write_varint(number, &mut field);
-    bytes.extend_from_slice(&field[..length])
 }
 
 /// The serial types of this schema format are those of every one (fileformat2.html, "Schema format number").

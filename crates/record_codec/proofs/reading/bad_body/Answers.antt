@@ -2,7 +2,7 @@ use Rattle.std.proofs.Common.{[], ◌∷◌, ◌++◌, refl, sym, ◌∙◌}
 use Rattle.common_laws.proofs.Lists.{none_left, some_left}
 use Rattle.record_codec.specs.declared.value.Value.{Value}
 use Rattle.record_codec.specs.Serial.{value_of}
-use Rattle.record_codec.proofs.Left.{all_left, left_push, left_record, left_short, left_surplus}
+use Rattle.record_codec.proofs.Left.{all_left, left_push, left_short, left_surplus, left_values}
 use Rattle.record_codec.proofs.reading.bad_body.Goals as goal
 
 pub loop-serial-init : goal.loop-serial-init
@@ -24,7 +24,7 @@ loop-serial-preserved c =
     )
 
 pub returns-then-is_empty-clause-record : goal.returns-then-is_empty-clause-record
-returns-then-is_empty-clause-record c = (c.loop-serial.invariant.0, left_record c.args.b.now c.args.types.now c.args.bodies.now c.loop-serial.left.now c.loop-serial.rest.now c.loop-serial.invariant.0 c.requires.header c.loop-serial.invariant.1 c.in_default.ensures.none (none_left c.loop-serial.rest.now (sym c.is_empty.ensures ∙ c.if-is_empty.true)))
+returns-then-is_empty-clause-record c = left_values c.args.types.now c.args.bodies.now c.loop-serial.left.now c.loop-serial.rest.now c.loop-serial.invariant.0 c.loop-serial.invariant.1 c.in_default.ensures.none (none_left c.loop-serial.rest.now (sym c.is_empty.ensures ∙ c.if-is_empty.true))
 
 pub returns-else-is_empty-clause-bad : goal.returns-else-is_empty-clause-bad
 returns-else-is_empty-clause-bad c =

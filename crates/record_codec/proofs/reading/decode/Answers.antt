@@ -1,18 +1,20 @@
-use Rattle.std.proofs.Common.{Global, Vec, inl}
-use Rattle.record_codec.specs.declared.value.Value.{Value}
-use Rattle.record_codec.proofs.Only.{one_bad, read_first, read_only, record_not_bad}
+use Rattle.std.proofs.Common.{ap}
+use Rattle.std.specs.Prelude.{Err}
+use Rattle.record_codec.specs.declared.error.RecordError.TheVariants.{Bad}
+use Rattle.record_codec.proofs.Only.{one_bad, parts_not_bad, parts_only, record_not_bad}
 use Rattle.record_codec.proofs.reading.decode.Goals as goal
 
-pub returns-in-Ok-clause-only : goal.returns-in-Ok-clause-only
-returns-in-Ok-clause-only c =
-    read_only (λ (read : Vec Value Global). read.items) c.args.b.now c.values.result c.values.ensures.found c.values.ensures.bad
+pub returns-in_err-values-in-Ok-clause-first : goal.returns-in_err-values-in-Ok-clause-first
+returns-in_err-values-in-Ok-clause-first c = λ at fault. absurd (parts_not_bad c.args.b.now c.in-Ok.types.now c.in-Ok.bodies.now c.in-Ok.ensures.found.0 c.in-Ok.ensures.found.1 at fault)
 
-pub returns-in-Ok-clause-first : goal.returns-in-Ok-clause-first
-returns-in-Ok-clause-first c =
-    read_first (λ (read : Vec Value Global). read.items) c.args.b.now c.values.result c.values.ensures.found c.values.ensures.bad
+pub returns-in_ok-values-in-Ok-clause-only : goal.returns-in_ok-values-in-Ok-clause-only
+returns-in_ok-values-in-Ok-clause-only c = parts_only c.args.b.now c.in-Ok.types.now c.in-Ok.bodies.now _ c.in-Ok.ensures.found.0 c.in_ok-values-in-Ok.ensures
+
+pub returns-in_ok-values-in-Ok-clause-first : goal.returns-in_ok-values-in-Ok-clause-first
+returns-in_ok-values-in-Ok-clause-first c = λ at fault. absurd (parts_not_bad c.args.b.now c.in-Ok.types.now c.in-Ok.bodies.now c.in-Ok.ensures.found.0 c.in-Ok.ensures.found.1 at fault)
 
 pub returns-in-Err-clause-only : goal.returns-in-Err-clause-only
-returns-in-Err-clause-only c = λ values is. record_not_bad c.args.b.now values c.in-Err.at is (inl c.in-Err.ensures.bad)
+returns-in-Err-clause-only c = λ values is. record_not_bad c.args.b.now values c.in-Err.at is c.in-Err.ensures.bad
 
 pub returns-in-Err-clause-first : goal.returns-in-Err-clause-first
-returns-in-Err-clause-first c = λ at fault. one_bad c.args.b.now c.in-Err.at at (inl c.in-Err.ensures.bad) fault
+returns-in-Err-clause-first c = λ at fault. ap (λ place. Err (Bad place)) (one_bad c.args.b.now c.in-Err.at at c.in-Err.ensures.bad fault)

@@ -1,0 +1,4 @@
+pub mod Below
+pub mod Names
+pub mod Ranks
+pub mod Sights
