@@ -1,12 +1,15 @@
 -- The first cause is one, at one place, and a script has none.
-use Rattle.std.proofs.Common.{◌≡◌, ◌≤◌, ℕ, List, length, arith, refl, sym, subst, ◌∙◌}
+use Rattle.std.proofs.Common.{◌≡◌, ◌≤◌, ℕ, List, Result, Ok, Err, Vec, Global, IfOk, IfErr, length, arith, refl, sym, subst, ◌∙◌}
+use Rattle.common_laws.specs.Results.{Yields}
 use Rattle.sql_token.specs.declared.token.Token.{Token}
 use Rattle.sql_token.specs.Token.{AreTokens, FirstBad}
 use Rattle.sql_tree.specs.Nesting.{FirstTooDeep}
 use Rattle.sql_tree.specs.declared.command.Command.{Command}
 use Rattle.script_parse.specs.declared.error.Cause.{Cause}
 use Rattle.script_parse.specs.declared.error.Cause.TheVariants.{TooLong, BadToken, Depth, TooMany, Syntax}
-use Rattle.script_parse.specs.Script.{Holds, IsFirstCause, IsListFault, IsReadable, IsScript, IsShallow, IsTooMany, IsUnspelled, NeverHolds, pieces_of}
+use Rattle.script_parse.specs.declared.error.ScriptError.{ScriptError}
+use Rattle.script_parse.specs.declared.error.ScriptError.TheVariants.{Memory, At}
+use Rattle.script_parse.specs.Script.{AreCommands, Holds, IsFirstCause, IsListFault, IsReadable, IsScript, IsShallow, IsTooMany, IsUnspelled, NeverHolds, OnRefused, pieces_of}
 use Rattle.script_parse.proofs.Cuts.{commands_not_too_many, commands_not_unspelled, one_too_many, one_unspelled}
 use Rattle.script_parse.proofs.Tokens.{no_list, one_bad, one_depth, one_list}
 
@@ -118,3 +121,26 @@ list_first text list at Syntax readable fault =
       holds = (list, readable.tokens, fault.0);
       first = (never_long text readable.short, (never_bad text list readable.tokens, (never_deep text list readable.tokens readable.shallow, (never_too_many text list readable.tokens fault.1, tt))));
     }
+
+-- ---- what a call answers
+
+-- a cause that is the first is the one that an error names
+pub refused_first : (text : List ℕ) (error : ScriptError) (at : ℕ) (cause : Cause) → OnRefused (IsFirstCause text) error → IsFirstCause text at cause
+    → OnRefused (λ place why. (place ≡ at) × (why ≡ cause)) error
+refused_first text (Memory fault) at cause is other = tt
+refused_first text (At place why) at cause is other = one_first_cause text place at why cause is other
+
+-- a fault of the list of a readable text is the text's first
+pub list_refused : (text : List ℕ) (list : List Token) (error : ScriptError) → IsReadable text list → OnRefused (IsListFault text list) error
+    → OnRefused (IsFirstCause text) error
+list_refused text list (Memory fault) readable is = tt
+list_refused text list (At at cause) readable is = list_first text list at cause readable is
+
+-- where a cause is the first, it is what the commands of the list answer
+pub answer_first : (text : List ℕ) (list : List Token) (answer : Result (Vec Command Global) ScriptError) (at : ℕ) (cause : Cause) → IsReadable text list
+    → IfOk answer (λ read. AreCommands text (pieces_of text list) read.items × (length read.items ≤ 10000))
+    → IfErr answer (OnRefused (IsListFault text list)) → IsFirstCause text at cause
+    → Yields (OnRefused (λ place why. (place ≡ at) × (why ≡ cause))) (λ read. ⊥) answer
+answer_first text list (Ok read) at cause readable found fault is =
+    script_has_none text read.items at cause (record { list = list; readable = readable; spelled = found.0; few = found.1 }) is.holds
+answer_first text list (Err error) at cause readable found fault is = refused_first text error at cause (list_refused text list error readable fault) is

@@ -1,6 +1,7 @@
 -- How the commands of a script grow, piece by piece.
-use Rattle.std.proofs.Common.{◌≡◌, ◌<◌, ◌≤◌, ◌+◌, ℕ, List, [], ◌∷◌, ◌++◌, length, length-append, arith, refl, sym, ap, subst, ◌∙◌, append_assoc}
+use Rattle.std.proofs.Common.{◌≡◌, ◌<◌, ◌≤◌, ◌+◌, ℕ, List, [], ◌∷◌, ◌++◌, ⊎_elim, length, length-append, arith, refl, sym, ap, subst, ◌∙◌, append_assoc}
 use Rattle.std.specs.List.{AllByRecursion}
+use Rattle.std.proofs.lemmas.Bool.{cond-true, cond-false, cases_Bool}
 use Rattle.std.proofs.lemmas.List.{append-nil}
 use Rattle.common_laws.proofs.Each.{all_at}
 use Rattle.common_laws.proofs.Lists.{front_of_longer}
@@ -8,8 +9,10 @@ use Rattle.sql_token.specs.declared.token.Token.{Token}
 use Rattle.sql_token.specs.Token.{AreTokens, IsTokenAt}
 use Rattle.sql_tree.specs.declared.command.Command.{Command}
 use Rattle.script_parse.specs.Command.{IsCommand}
-use Rattle.script_parse.specs.declared.error.Cause.TheVariants.{Syntax}
-use Rattle.script_parse.specs.Script.{AreCommands, BeginsAt, IsListFault, IsSpelled, IsTooMany, IsUnspelled, behind_first, filled, first_piece, pieces_of}
+use Rattle.script_parse.specs.declared.error.Cause.TheVariants.{TooLong, BadToken, Depth, TooMany, Syntax}
+use Rattle.script_parse.specs.declared.error.ScriptError.{ScriptError}
+use Rattle.script_parse.specs.declared.error.ScriptError.TheVariants.{Memory, At}
+use Rattle.script_parse.specs.Script.{AreCommands, BeginsAt, IsListFault, IsMemory, IsPieceFault, IsSpelled, IsTaken, IsTooMany, IsUnspelled, OnRefused, behind_first, filled, first_piece, is_end, pieces_of}
 use Rattle.script_parse.proofs.Cuts.{all_behind_first, all_of_first, commands_first, commands_length, commands_not_too_many, commands_not_unspelled, commands_push, commands_spelled, pieces_cut}
 use Rattle.script_parse.proofs.Tokens.{all_stand}
 
@@ -156,3 +159,58 @@ pub reads_none : (text : List ℕ) (tokens rest : List Token) (commands all : Li
     → Reads text tokens commands rest → first_piece text rest ≡ t ∷ ts → (IsSpelled text (t ∷ ts) → ⊥) → AreCommands text (pieces_of text tokens) all → ⊥
 reads_none text tokens rest commands all t ts reads piece fault spelled =
     commands_not_unspelled text (pieces_of text tokens) all t.start spelled (reads_unspelled text tokens rest commands t ts reads piece fault)
+
+-- ---- a piece more
+
+-- what is left behind a piece is shorter
+behind_within : (text : List ℕ) (tokens : List Token) → length (behind_first text tokens) ≤ length tokens
+behind_within text [] = omega arith
+behind_within text (t ∷ ts) =
+    ⊎_elim
+    (λ ends. let is = ap length (cond-true (is_end text t) ts (behind_first text ts) ends) in omega (arith, is))
+    (λ goes. let is = ap length (cond-false (is_end text t) ts (behind_first text ts) goes) in omega (arith, is, behind_within text ts))
+    (cases_Bool (is_end text t))
+
+pub behind_shorter : (text : List ℕ) (tokens : List Token) → 1 ≤ length tokens → length (behind_first text tokens) < length tokens
+behind_shorter text [] some = absurd (omega (arith, some))
+behind_shorter text (t ∷ ts) some =
+    ⊎_elim
+    (λ ends. let is = ap length (cond-true (is_end text t) ts (behind_first text ts) ends) in omega (arith, is))
+    (λ goes. let is = ap length (cond-false (is_end text t) ts (behind_first text ts) goes) in omega (arith, is, behind_within text ts))
+    (cases_Bool (is_end text t))
+
+pub reads_turn : (text : List ℕ) (tokens rest : List Token) (commands new : List Command) (piece : List Token) → Reads text tokens commands rest
+    → first_piece text rest ≡ piece → IsTaken text piece commands new → Reads text tokens new (behind_first text rest)
+reads_turn text tokens rest commands new [] reads here taken =
+    subst (λ cs. Reads text tokens cs (behind_first text rest)) (sym taken) (reads_empty text tokens rest commands reads here)
+reads_turn text tokens rest commands new (t ∷ ts) reads here taken =
+    let (command, is, one, more, few) = taken in
+    subst (λ cs. Reads text tokens cs (behind_first text rest)) (sym more) (reads_more text tokens rest commands t ts command reads here is one few)
+
+-- a fault of the piece is one of the list
+pub piece_refused : (text : List ℕ) (tokens rest : List Token) (commands : List Command) (piece : List Token) (error : ScriptError)
+    → Reads text tokens commands rest → first_piece text rest ≡ piece → OnRefused (IsPieceFault text piece commands) error
+    → OnRefused (IsListFault text tokens) error
+piece_refused text tokens rest commands piece (Memory fault) reads here is = tt
+piece_refused text tokens rest commands [] (At at cause) reads here is = absurd is
+piece_refused text tokens rest commands (t ∷ ts) (At at TooLong) reads here is = absurd is
+piece_refused text tokens rest commands (t ∷ ts) (At at BadToken) reads here is = absurd is
+piece_refused text tokens rest commands (t ∷ ts) (At at Depth) reads here is = absurd is
+piece_refused text tokens rest commands (t ∷ ts) (At at TooMany) reads here is =
+    subst (IsTooMany text (pieces_of text tokens)) (sym is.0) (reads_too_many text tokens rest commands t ts reads here is.1)
+piece_refused text tokens rest commands (t ∷ ts) (At at Syntax) reads here is =
+    subst (λ place. IsListFault text tokens place Syntax) (sym is.0) (reads_fault text tokens rest commands t ts reads here is.2 is.1)
+
+-- and the list then spells no commands
+pub piece_unread : (text : List ℕ) (tokens rest : List Token) (commands all : List Command) (piece : List Token) (error : ScriptError)
+    → Reads text tokens commands rest → first_piece text rest ≡ piece → OnRefused (IsPieceFault text piece commands) error
+    → AreCommands text (pieces_of text tokens) all → length all ≤ 10000 → IsMemory error
+piece_unread text tokens rest commands all piece (Memory fault) reads here is spelled few = tt
+piece_unread text tokens rest commands all [] (At at cause) reads here is spelled few = is
+piece_unread text tokens rest commands all (t ∷ ts) (At at TooLong) reads here is spelled few = is
+piece_unread text tokens rest commands all (t ∷ ts) (At at BadToken) reads here is spelled few = is
+piece_unread text tokens rest commands all (t ∷ ts) (At at Depth) reads here is spelled few = is
+piece_unread text tokens rest commands all (t ∷ ts) (At at TooMany) reads here is spelled few =
+    commands_not_too_many text (pieces_of text tokens) all t.start spelled few (reads_too_many text tokens rest commands t ts reads here is.1)
+piece_unread text tokens rest commands all (t ∷ ts) (At at Syntax) reads here is spelled few =
+    reads_none text tokens rest commands all t ts reads here is.2 spelled

@@ -67,10 +67,15 @@ IsTableRenamed text table (to_word ∷ new ∷ []) (RenameTable of to) =
     Names text table of × IsFixed text K.To to_word × Names text new to
 IsTableRenamed text table tokens command = ⊥
 
+-- the command renames the column of the table to the new name
+abbrev pub IsColumnNamed : List ℕ → Token → Token → Token → Command → Type 0
+IsColumnNamed text table column new (RenameColumn of old to bare) =
+    Names text table of × Names text column old × Names text new to × (bare ≡ is_bare new.kind)
+IsColumnNamed text table column new command = ⊥
+
 -- behind ALTER TABLE name RENAME [COLUMN]: name TO name
 abbrev pub IsColumnRenamed : List ℕ → Token → List Token → Command → Type 0
-IsColumnRenamed text table (column ∷ to_word ∷ new ∷ []) (RenameColumn of old to bare) =
-    Names text table of × Names text column old × IsFixed text K.To to_word × Names text new to × (bare ≡ is_bare new.kind)
+IsColumnRenamed text table (column ∷ to_word ∷ new ∷ []) command = IsFixed text K.To to_word × IsColumnNamed text table column new command
 IsColumnRenamed text table tokens command = ⊥
 
 -- behind ALTER TABLE name ADD [COLUMN]: a column's definition
@@ -105,11 +110,16 @@ IsAlter text (table_word ∷ tokens) command =
     IsFixed text K.Table table_word × (IsAltered text tokens command ⊎ IsQualified text tokens command)
 IsAlter text tokens command = ⊥
 
+-- the command rebuilds the table by a definition whose tokens from its name on are these
+abbrev pub IsDefined : List ℕ → Token → List Token → Command → Type 0
+IsDefined text table tokens (Rebuild of body definition) =
+    Names text table of × (body ≡ codes "CREATE TABLE " ++ bytes_of_all text tokens) × IsTableText body definition
+IsDefined text table tokens command = ⊥
+
 -- behind REBUILD [TABLE]: name AS CREATE TABLE and a table's definition from its name on
 abbrev pub IsRebuilt : List ℕ → List Token → Command → Type 0
-IsRebuilt text (table ∷ as_word ∷ create ∷ table_word ∷ tokens) (Rebuild of body definition) =
-    Names text table of × IsFixed text K.As as_word × IsFixed text K.Create create × IsFixed text K.Table table_word
-    × (body ≡ codes "CREATE TABLE " ++ bytes_of_all text tokens) × IsTableText body definition
+IsRebuilt text (table ∷ as_word ∷ create ∷ table_word ∷ tokens) command =
+    IsFixed text K.As as_word × IsFixed text K.Create create × IsFixed text K.Table table_word × IsDefined text table tokens command
 IsRebuilt text tokens command = ⊥
 
 -- the tokens between two `;` are this command

@@ -131,9 +131,23 @@ OnRefused P (At at cause) = P at cause
 abbrev pub IsMemory : ScriptError → Type 0
 IsMemory error = OnRefused (λ at cause. ⊥) error
 
--- the cause that is no list of commands in front of which all of a text's tokens stand
+-- the cause, at the place, why a text's tokens spell no list of at most 10,000 commands
 abbrev pub IsListFault : List ℕ → List Token → ℕ → Cause → Type 0
 IsListFault text list at TooMany = IsTooMany text (pieces_of text list) at
 IsListFault text list at Syntax =
     IsUnspelled text (pieces_of text list) at × ((place : ℕ) → IsTooMany text (pieces_of text list) place → ⊥)
 IsListFault text list at cause = ⊥
+
+-- behind the old commands, less than 10,000, comes the one that the piece is; or the piece is empty and they are all
+abbrev pub IsTaken : List ℕ → List Token → List Command → List Command → Type 0
+IsTaken text [] old new = new ≡ old
+IsTaken text (token ∷ tokens) old new =
+    (command : Command) × IsCommand text (token ∷ tokens) command
+    × ((other : Command) → IsCommand text (token ∷ tokens) other → command ≡ other)
+    × (new ≡ old ++ command ∷ []) × (length old < 10000)
+
+-- the cause, at the piece's start, why it gives no further command
+abbrev pub IsPieceFault : List ℕ → List Token → List Command → ℕ → Cause → Type 0
+IsPieceFault text (token ∷ tokens) old at TooMany = (at ≡ token.start) × (length old ≡ 10000)
+IsPieceFault text (token ∷ tokens) old at Syntax = (at ≡ token.start) × (length old < 10000) × (IsSpelled text (token ∷ tokens) → ⊥)
+IsPieceFault text piece old at cause = ⊥

@@ -6,14 +6,14 @@ ghost use Rattle.sql_token.specs.Token.{IsTokenAt};
 ghost use Rattle.sql_tree.specs.declared.command.Command.{Command as CommandOf};
 ghost use Rattle.ddl_parse.specs.Given.{IsReadAs};
 ghost use Rattle.sql_token.specs.declared.keyword.Keyword.TheVariants as K;
-ghost use Rattle.script_parse.specs.Command.{without_word, IsAdded, IsAlter, IsAltered, IsColumnRenamed, IsCommand, IsDropped, IsQualified, IsRebuilt, IsTableRenamed};
+ghost use Rattle.script_parse.specs.Command.{without_word, IsAdded, IsAlter, IsAltered, IsColumnNamed, IsColumnRenamed, IsCommand, IsDefined, IsDropped, IsQualified, IsRebuilt, IsTableRenamed};
 
 use crate::fields::{
-    bytes_of_all, column_of, is_main, name, table_of, table_text, take_first, without_word,
+    bytes_of_all, column_of, is_bare, is_main, name, table_of, table_text, take_first, without_word,
 };
 use alter_bytes::Bytes;
 use sql_reader::ReadError;
-use sql_token::{Keyword, Token, TokenKind, fixed_word, is_fixed, is_sign};
+use sql_token::{Keyword, Token, is_fixed, is_sign};
 use sql_tree::Command;
 use std::alloc::Global;
 
@@ -24,10 +24,12 @@ pub fn command(alloc: Global, text: &[u8], piece: &[Token]) -> Result<Command, R
     ensures only { (command : CommandOf) → IsCommand text.now piece.now command → IsReadAs command result }
 {
     let (first, rest) = take_first(piece)?;
-    match fixed_word(text, &first) {
-        Some(Keyword::Alter) => alter(alloc, text, rest),
-        Some(Keyword::Rebuild) => rebuilt(alloc, text, without_word(text, Keyword::Table, rest)),
-        _ => Err(ReadError::Syntax),
+    if is_fixed(text, Keyword::Alter, &first) {
+        alter(alloc, text, rest)
+    } else if is_fixed(text, Keyword::Rebuild, &first) {
+        rebuilt(alloc, text, without_word(text, Keyword::Table, rest))
+    } else {
+        Err(ReadError::Syntax)
     }
 }
 
@@ -69,11 +71,14 @@ fn altered(alloc: Global, text: &[u8], tokens: &[Token]) -> Result<Command, Read
 {
     let (table, rest) = take_first(tokens)?;
     let (verb, rest) = take_first(rest)?;
-    match fixed_word(text, &verb) {
-        Some(Keyword::Rename) => renamed(alloc, text, &table, rest),
-        Some(Keyword::Add) => added(alloc, text, &table, without_word(text, Keyword::Column, rest)),
-        Some(Keyword::Drop) => dropped(alloc, text, &table, without_word(text, Keyword::Column, rest)),
-        _ => Err(ReadError::Syntax),
+    if is_fixed(text, Keyword::Rename, &verb) {
+        renamed(alloc, text, &table, rest)
+    } else if is_fixed(text, Keyword::Add, &verb) {
+        added(alloc, text, &table, without_word(text, Keyword::Column, rest))
+    } else if is_fixed(text, Keyword::Drop, &verb) {
+        dropped(alloc, text, &table, without_word(text, Keyword::Column, rest))
+    } else {
+        Err(ReadError::Syntax)
     }
 }
 
@@ -137,7 +142,24 @@ fn column_renamed(
     if !is_fixed(text, Keyword::To, to_word) {
         return Err(ReadError::Syntax);
     }
-    let bare = matches!(new.kind, TokenKind::Word);
+    column_named(alloc, text, table, column, new)
+}
+
+/// The command that renames the column to the new name.
+fn column_named(
+    alloc: Global,
+    text: &[u8],
+    table: &Token,
+    column: &Token,
+    new: &Token,
+) -> Result<Command, ReadError>
+    requires table { IsTokenAt text.now table.now }
+    requires column { IsTokenAt text.now column.now }
+    requires new { IsTokenAt text.now new.now }
+    ensures found { IfOk result (IsColumnNamed text.now table.now column.now new.now) }
+    ensures only { (command : CommandOf) → IsColumnNamed text.now table.now column.now new.now command → IsReadAs command result }
+{
+    let bare = is_bare(new);
     let table = name(alloc, text, table)?;
     let column = name(alloc, text, column)?;
     let new = name(alloc, text, new)?;
@@ -163,10 +185,9 @@ fn added(
     let table = name(alloc, text, table)?;
     let body = bytes_of_all(text, tokens);
     let column = column_of(alloc, body)?;
-    let text = Bytes::from_slice(alloc, body)?;
     Ok(Command::Add {
         table,
-        text,
+        text: Bytes::from_slice(alloc, body)?,
         column,
     })
 }
@@ -206,12 +227,26 @@ fn rebuilt(alloc: Global, text: &[u8], tokens: &[Token]) -> Result<Command, Read
     {
         return Err(ReadError::Syntax);
     }
+    defined(alloc, text, table, definition)
+}
+
+/// The command that rebuilds the table by the definition.
+fn defined(
+    alloc: Global,
+    text: &[u8],
+    table: &Token,
+    tokens: &[Token],
+) -> Result<Command, ReadError>
+    requires table { IsTokenAt text.now table.now }
+    ensures found { IfOk result (IsDefined text.now table.now tokens.now) }
+    ensures only { (command : CommandOf) → IsDefined text.now table.now tokens.now command → IsReadAs command result }
+{
     let table = name(alloc, text, table)?;
-    let text = table_text(alloc, bytes_of_all(text, definition))?;
-    let definition = table_of(alloc, text.as_slice())?;
+    let body = table_text(alloc, bytes_of_all(text, tokens))?;
+    let definition = table_of(alloc, body.as_slice())?;
     Ok(Command::Rebuild {
         table,
-        text,
+        text: body,
         definition,
     })
 }

@@ -12,13 +12,13 @@ ghost use Rattle.sql_tree.specs.declared.table.Column.{Column as ColumnTree};
 ghost use Rattle.sql_tree.specs.declared.table.CreateTable.{CreateTable as TableTree};
 ghost use Rattle.ddl_parse.specs.Given.{IsReadAs};
 ghost use Rattle.script_parse.specs.Answers.{IsWant};
-ghost use Rattle.script_parse.specs.Command.{IsColumnText, IsMain, IsTableText, Names, bytes_of_all, end_of, without_word};
+ghost use Rattle.script_parse.specs.Command.{IsColumnText, IsMain, IsTableText, Names, bytes_of_all, end_of, is_bare, without_word};
 
 use alter_bytes::Bytes;
 use ddl_parse::{read_column, read_table};
 use sql_reader::{ReadError, sort_of};
 use sql_token::{
-    Keyword, Token, TokenError, bytes_of, is_name, name_of, same_name, tokens,
+    Keyword, Token, TokenError, TokenKind, bytes_of, is_name, name_of, same_name, tokens,
 };
 use sql_tree::{Column, CreateTable};
 use std::alloc::{AllocError, Global};
@@ -58,6 +58,13 @@ pub fn name(alloc: Global, text: &[u8], token: &Token) -> Result<Bytes, ReadErro
         return Err(ReadError::Syntax);
     }
     Ok(Bytes::new(name_of(alloc, text, token)?))
+}
+
+/// Whether the token is a name without quotes.
+pub fn is_bare(token: &Token) -> bool
+    ensures { result ≡ is_bare token.now.kind }
+{
+    matches!(token.kind, TokenKind::Word)
 }
 
 /// Whether the token is a name that spells `main`.

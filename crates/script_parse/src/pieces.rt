@@ -1,13 +1,13 @@
 //! Pieces of a script, and the commands that they are.
 
-ghost use Rattle.std.specs.Prelude.{◌≡◌, ◌≤◌, List, length, IfOk, IfErr};
+ghost use Rattle.std.specs.Prelude.{◌≡◌, ◌≤◌, List, length, IfOk, IfErr, OnOk};
 ghost use Rattle.common_laws.specs.Results.{Yields};
 ghost use Rattle.std.specs.List.{AllByRecursion};
 ghost use Rattle.sql_token.specs.Token.{AreTokens, IsTokenAt};
 ghost use Rattle.sql_tree.specs.declared.command.Command.{Command as CommandOf};
 ghost use Rattle.script_parse.specs.declared.error.Cause.TheVariants.{Syntax};
 ghost use Rattle.script_parse.specs.Command.{IsCommand};
-ghost use Rattle.script_parse.specs.Script.{AreCommands, IsListFault, IsMemory, OnRefused, behind_first, first_piece, is_end, pieces_of};
+ghost use Rattle.script_parse.specs.Script.{AreCommands, IsListFault, IsMemory, IsPieceFault, IsTaken, OnRefused, behind_first, first_piece, is_end, pieces_of};
 
 use crate::command::command;
 use crate::error::{Cause, ScriptError};
@@ -67,15 +67,33 @@ pub fn commands_of(
     let mut rest = tokens;
     while !rest.is_empty() {
         let piece = first_piece(text, rest);
+        add_command(alloc, text, piece, &mut commands)?;
         rest = behind_first(text, rest);
-        if let [first, ..] = piece {
-            if commands.len() == MAX_COMMANDS {
-                return Err(ScriptError::At(first.start, Cause::TooMany));
-            }
-            commands.push(command_at(alloc, text, piece, first.start)?)?;
-        }
     }
     Ok(commands)
+}
+
+/// Adds the command that the piece is, unless it is empty.
+fn add_command(
+    alloc: Global,
+    text: &[u8],
+    piece: &[Token],
+    commands: &mut Vec<Command>,
+) -> Result<(), ScriptError>
+    requires at { AllByRecursion (IsTokenAt text.now) piece.now }
+    requires few { length commands.old.items ≤ 10000 }
+    ensures ok { OnOk result (IsTaken text.now piece.now commands.old.items commands.new.items) }
+    ensures fault { IfErr result (OnRefused (IsPieceFault text.now piece.now commands.old.items)) }
+{
+    let Some((first, _)) = piece.split_first() else {
+        return Ok(());
+    };
+    if commands.len() == MAX_COMMANDS {
+        return Err(ScriptError::At(first.start, Cause::TooMany));
+    }
+    let command = command_at(alloc, text, piece, first.start)?;
+    commands.push(command)?;
+    Ok(())
 }
 
 /// The command that the piece is, which begins at the place.

@@ -25,10 +25,11 @@ pub const MAX_COMMANDS: usize = 10_000;
 ///
 /// `At` comes with the first cause that holds, whatever else is wrong, and its place in bytes.
 pub fn parse_script(alloc: Global, text: &[u8]) -> Result<Vec<Command>, ScriptError>
-    // What is spelled so is read, unless memory runs out.
-    ensures found { (commands : List CommandOf) → IsScript text.now commands → Yields IsMemory (λ read. read.items ≡ commands) result }
     // What is read is spelled so.
-    ensures only { IfOk result (λ read. IsScript text.now read.items) }
+    ensures found { IfOk result (λ read. IsScript text.now read.items) }
+    // What is spelled so is read, unless memory runs out.
+    ensures only { (commands : List CommandOf) → IsScript text.now commands → Yields IsMemory (λ read. read.items ≡ commands) result }
+    // The cause is the first that holds.
     ensures fault { IfErr result (OnRefused (IsFirstCause text.now)) }
     // Where a cause holds, the first is the answer, at its place.
     ensures first { (at : ℕ) (cause : CauseOf) → IsFirstCause text.now at cause → Yields (OnRefused (λ place why. (place ≡ at) × (why ≡ cause))) (λ read. ⊥) result }
