@@ -49,16 +49,16 @@ defined_unread text table tokens bytes error same only (Drop of old) is = absurd
 defined_unread text table tokens bytes error same only (Rebuild of body definition) is =
     unread definition (Rebuild of body definition) error (only definition (subst (λ b. IsTableText b definition) (is.1 ∙ sym same) is.2))
 
-pub defined_one : (text : List ℕ) (table : Token) (tokens : List Token) (name bytes : List ℕ) (tree : CreateTable)
-    → bytes ≡ codes "CREATE TABLE " ++ bytes_of_all text tokens
+pub defined_one : (text : List ℕ) (table : Token) (tokens : List Token) (name bytes copy : List ℕ) (tree : CreateTable)
+    → bytes ≡ copy → copy ≡ codes "CREATE TABLE " ++ bytes_of_all text tokens
     → ((spelled : List ℕ) → Names text table spelled → name ≡ spelled) → ((definition : CreateTable) → IsTableText bytes definition → tree ≡ definition)
-    → (command : Command) → IsDefined text table tokens command → Rebuild name bytes tree ≡ command
-defined_one text table tokens name bytes tree same named only (RenameTable of new) is = absurd is
-defined_one text table tokens name bytes tree same named only (RenameColumn of old new bare) is = absurd is
-defined_one text table tokens name bytes tree same named only (Add of body column) is = absurd is
-defined_one text table tokens name bytes tree same named only (Drop of old) is = absurd is
-defined_one text table tokens name bytes tree same named only (Rebuild of body definition) is =
+    → (command : Command) → IsDefined text table tokens command → Rebuild name copy tree ≡ command
+defined_one text table tokens name bytes copy tree copied same named only (RenameTable of new) is = absurd is
+defined_one text table tokens name bytes copy tree copied same named only (RenameColumn of old new bare) is = absurd is
+defined_one text table tokens name bytes copy tree copied same named only (Add of body column) is = absurd is
+defined_one text table tokens name bytes copy tree copied same named only (Drop of old) is = absurd is
+defined_one text table tokens name bytes copy tree copied same named only (Rebuild of body definition) is =
     let name_is = named of is.0 in
     let body_is = same ∙ sym is.1 in
-    let tree_is = only definition (subst (λ b. IsTableText b definition) (is.1 ∙ sym same) is.2) in
+    let tree_is = only definition (subst (λ b. IsTableText b definition) (is.1 ∙ sym (copied ∙ same)) is.2) in
     cc

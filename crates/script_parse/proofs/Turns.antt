@@ -79,8 +79,7 @@ reads_more text tokens rest commands t ts command reads piece is one few =
       few = omega (arith, length-append commands (command ∷ []), few);
       only = λ all spelled.
           let (more, split, others) = reads.only all spelled in
-          let (c, cs, first, here, later) = commands_first text (t ∷ ts) behind more (subst (λ ps. AreCommands text ps more) cut others) in
-          (
+          let (c, cs, first, here, later) = commands_first text (t ∷ ts) behind more (subst (λ ps. AreCommands text ps more) cut others) in (
             cs,
             split ∙ ap (λ m. commands ++ m) (first ∙ ap (λ d. d ∷ cs) (sym (one c here))) ∙ sym (append_assoc commands (command ∷ []) cs),
             later,
@@ -214,3 +213,28 @@ piece_unread text tokens rest commands all (t ∷ ts) (At at TooMany) reads here
     commands_not_too_many text (pieces_of text tokens) all t.start spelled few (reads_too_many text tokens rest commands t ts reads here is.1)
 piece_unread text tokens rest commands all (t ∷ ts) (At at Syntax) reads here is spelled few =
     reads_none text tokens rest commands all t ts reads here is.2 spelled
+
+-- ---- a piece's command
+
+-- the piece's command comes behind the others
+pub taken_one : (text : List ℕ) (piece : List Token) (first : Token) (others : List Token) (old new : List Command) (command : Command)
+    → piece ≡ first ∷ others → length old < 10000 → IsCommand text piece command
+    → ((other : Command) → IsCommand text piece other → command ≡ other) → new ≡ old ++ command ∷ [] → IsTaken text piece old new
+taken_one text piece first others old new command cut few is one more =
+    subst (λ ts. IsTaken text ts old new) (sym cut) (
+      command,
+      subst (λ ts. IsCommand text ts command) cut is,
+      λ other there. one other (subst (λ ts. IsCommand text ts other) (sym cut) there),
+      more,
+      few,
+    )
+
+-- a piece that is no command is a fault
+pub taken_fault : (text : List ℕ) (piece : List Token) (first : Token) (others : List Token) (old : List Command) (error : ScriptError)
+    → piece ≡ first ∷ others → length old < 10000 → OnRefused (λ place cause. (place ≡ first.start) × (cause ≡ Syntax)) error
+    → ((command : Command) → IsCommand text piece command → IsMemory error) → OnRefused (IsPieceFault text piece old) error
+taken_fault text piece first others old (Memory fault) cut few is only = tt
+taken_fault text piece first others old (At at cause) cut few is only =
+    subst (λ ts. IsPieceFault text ts old at cause) (sym cut)
+    (subst (IsPieceFault text (first ∷ others) old at) (sym is.1)
+    (is.0, few, λ spelled. only spelled.0 (subst (λ ts. IsCommand text ts spelled.0) (sym cut) spelled.1)))

@@ -74,9 +74,19 @@ fn altered(alloc: Global, text: &[u8], tokens: &[Token]) -> Result<Command, Read
     if is_fixed(text, Keyword::Rename, &verb) {
         renamed(alloc, text, &table, rest)
     } else if is_fixed(text, Keyword::Add, &verb) {
-        added(alloc, text, &table, without_word(text, Keyword::Column, rest))
+        added(
+            alloc,
+            text,
+            &table,
+            without_word(text, Keyword::Column, rest),
+        )
     } else if is_fixed(text, Keyword::Drop, &verb) {
-        dropped(alloc, text, &table, without_word(text, Keyword::Column, rest))
+        dropped(
+            alloc,
+            text,
+            &table,
+            without_word(text, Keyword::Column, rest),
+        )
     } else {
         Err(ReadError::Syntax)
     }
@@ -97,7 +107,12 @@ fn renamed(
     if tokens.len() == 2 {
         table_renamed(alloc, text, table, tokens)
     } else {
-        column_renamed(alloc, text, table, without_word(text, Keyword::Column, tokens))
+        column_renamed(
+            alloc,
+            text,
+            table,
+            without_word(text, Keyword::Column, tokens),
+        )
     }
 }
 
@@ -172,12 +187,7 @@ fn column_named(
 }
 
 /// A column's definition.
-fn added(
-    alloc: Global,
-    text: &[u8],
-    table: &Token,
-    tokens: &[Token],
-) -> Result<Command, ReadError>
+fn added(alloc: Global, text: &[u8], table: &Token, tokens: &[Token]) -> Result<Command, ReadError>
     requires table { IsTokenAt text.now table.now }
     ensures found { IfOk result (IsAdded text.now table.now tokens.now) }
     ensures only { (command : CommandOf) → IsAdded text.now table.now tokens.now command → IsReadAs command result }
@@ -185,9 +195,10 @@ fn added(
     let table = name(alloc, text, table)?;
     let body = bytes_of_all(text, tokens);
     let column = column_of(alloc, body)?;
+    let copy = Bytes::from_slice(alloc, body)?;
     Ok(Command::Add {
         table,
-        text: Bytes::from_slice(alloc, body)?,
+        text: copy,
         column,
     })
 }

@@ -40,8 +40,7 @@ pub fn without_word<'a>(text: &[u8], keyword: Keyword, tokens: &'a [Token]) -> &
 {
     match tokens {
         [first, second, ..]
-            if sort_of(text, first).is_word(keyword) && sort_of(text, second).is_name() =>
-        {
+            if sort_of(text, first).is_word(keyword) && sort_of(text, second).is_name() => {
             &tokens[1..]
         }
         _ => tokens,

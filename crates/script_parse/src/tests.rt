@@ -15,14 +15,38 @@ fn refused(rt: HostRuntime, text: &[u8]) -> (usize, Option<Cause>) {
 fn a_script_is_read_or_refused_at_its_first_cause(rt: HostRuntime) -> Result<(), Fail> {
     assert_eq!(rt; refused(rt, b""), (0, None));
     assert_eq!(rt; refused(rt, b"; -- nothing\n;;/* */"), (0, None));
-    assert_eq!(rt; refused(rt, b"ALTER TABLE t RENAME"), (0, Some(Cause::Syntax)));
-    assert_eq!(rt; refused(rt, b"ALTER TABLE t ADD c DEFAULT 'x"), (28, Some(Cause::BadToken)));
-    assert_eq!(rt; refused(rt, b"ALTER TABLE t ADD c; DROP t"), (21, Some(Cause::Syntax)));
-    assert_eq!(rt; refused(rt, b"ALTER TABLE temp.t DROP c"), (0, Some(Cause::Syntax)));
+    assert_eq!(rt;
+        refused(rt, b"ALTER TABLE t RENAME"),
+        (0, Some(Cause::Syntax))
+    );
+    assert_eq!(rt;
+        refused(rt, b"ALTER TABLE t ADD c DEFAULT 'x"),
+        (28, Some(Cause::BadToken))
+    );
+    assert_eq!(rt;
+        refused(rt, b"ALTER TABLE t ADD c; DROP t"),
+        (21, Some(Cause::Syntax))
+    );
+    assert_eq!(rt;
+        refused(rt, b"ALTER TABLE temp.t DROP c"),
+        (0, Some(Cause::Syntax))
+    );
     assert_eq!(rt; refused(rt, b"ALTER TABLE [MAIN].t DROP c;"), (1, None));
-    assert_eq!(rt; refused(rt, b";;ALTER TABLE t RENAME COLUMN a TO b;rebuild table t as create table t(a, b)"), (2, None));
-    assert_eq!(rt; refused(rt, b"REBUILD t AS CREATE TABLE if not exists t(a)"), (0, Some(Cause::Syntax)));
-    assert_eq!(rt; refused(rt, b"REBUILD \"if\" AS CREATE TABLE if(a)"), (1, None));
+    assert_eq!(rt;
+        refused(
+            rt,
+            b";;ALTER TABLE t RENAME COLUMN a TO b;rebuild table t as create table t(a, b)"
+        ),
+        (2, None)
+    );
+    assert_eq!(rt;
+        refused(rt, b"REBUILD t AS CREATE TABLE if not exists t(a)"),
+        (0, Some(Cause::Syntax))
+    );
+    assert_eq!(rt;
+        refused(rt, b"REBUILD \"if\" AS CREATE TABLE if(a)"),
+        (1, None)
+    );
     Ok(())
 }
 
@@ -41,9 +65,14 @@ fn adds(rt: HostRuntime, script: &[u8], wanted: &[u8]) -> bool {
 fn renames(rt: HostRuntime, script: &[u8], of: &[u8], to: &[u8], is_bare: bool) -> bool {
     match parse_script(rt.alloc(), script) {
         Ok(commands) => match commands.as_slice() {
-            [Command::RenameColumn { column, new, bare, .. }] => {
-                column.as_slice() == of && new.as_slice() == to && *bare == is_bare
-            }
+            [
+                Command::RenameColumn {
+                    column,
+                    new,
+                    bare,
+                    ..
+                },
+            ] => { column.as_slice() == of && new.as_slice() == to && *bare == is_bare }
             _ => false,
         },
         Err(_) => false,
@@ -54,8 +83,22 @@ fn renames(rt: HostRuntime, script: &[u8], of: &[u8], to: &[u8], is_bare: bool) 
 fn column_is_a_name_where_no_name_follows(rt: HostRuntime) -> Result<(), Fail> {
     assert!(rt; adds(rt, b"ALTER TABLE t ADD column;", b"column"));
     assert!(rt; adds(rt, b"ALTER TABLE t ADD column int ;", b"int"));
-    assert!(rt; adds(rt, b"ALTER TABLE t ADD column \"x\" INT /* */ ;", b"\"x\" INT"));
-    assert!(rt; renames(rt, b"ALTER TABLE t RENAME column TO \"x y\"", b"column", b"x y", false));
+    assert!(rt;
+        adds(
+            rt,
+            b"ALTER TABLE t ADD column \"x\" INT /* */ ;",
+            b"\"x\" INT"
+        )
+    );
+    assert!(rt;
+        renames(
+            rt,
+            b"ALTER TABLE t RENAME column TO \"x y\"",
+            b"column",
+            b"x y",
+            false
+        )
+    );
     assert!(rt; renames(rt, b"ALTER TABLE t RENAME column a TO b", b"a", b"b", true));
     Ok(())
 }

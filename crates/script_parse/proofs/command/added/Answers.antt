@@ -10,5 +10,5 @@ returns-in_err-column-clause-only c =
 
 pub returns-clause-only : goal.returns-clause-only
 returns-clause-only c =
-    added_one c.args.text.now c.args.table.now c.args.tokens.now c.in_ok-table.table c.bytes_of_all-body.result.now c.in_ok-text.text c.in_ok-column.column
-    c.bytes_of_all-body.ensures c.in_ok-text.ensures c.in_ok-table.ensures.only c.in_ok-column.ensures.only
+    added_one c.args.text.now c.args.table.now c.args.tokens.now c.in_ok-table.table c.bytes_of_all-body.result.now c.in_ok-copy.copy c.in_ok-column.column
+    c.bytes_of_all-body.ensures c.in_ok-copy.ensures c.in_ok-table.ensures.only c.in_ok-column.ensures.only
