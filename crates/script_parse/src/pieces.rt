@@ -25,7 +25,7 @@ fn is_end(text: &[u8], token: &Token) -> bool
 }
 
 /// The tokens before the first `;`.
-fn first_piece<'a>(text: &[u8], tokens: &'a [Token]) -> &'a [Token]
+pub fn first_piece<'a>(text: &[u8], tokens: &'a [Token]) -> &'a [Token]
     ensures { result.now ≡ first_piece text.now tokens.now }
 {
     let mut count = 0;
@@ -39,7 +39,7 @@ fn first_piece<'a>(text: &[u8], tokens: &'a [Token]) -> &'a [Token]
 }
 
 /// The tokens behind the first `;`.
-fn behind_first<'a>(text: &[u8], tokens: &'a [Token]) -> &'a [Token]
+pub fn behind_first<'a>(text: &[u8], tokens: &'a [Token]) -> &'a [Token]
     ensures { result.now ≡ behind_first text.now tokens.now }
 {
     let mut rest = tokens;
