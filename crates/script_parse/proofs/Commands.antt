@@ -1,5 +1,5 @@
 -- Commands with a text: which one is made, and that none is where the text is refused.
-use Rattle.std.proofs.Common.{◌≡◌, ◌++◌, ℕ, List, Err, refl, sym, subst, ◌∙◌, codes}
+use Rattle.std.proofs.Common.{◌≡◌, ◌++◌, ℕ, List, Err, sym, subst, ◌∙◌, codes}
 use Rattle.sql_token.specs.declared.token.Token.{Token}
 use Rattle.sql_reader.specs.declared.error.ReadError.{ReadError}
 use Rattle.sql_reader.specs.declared.error.ReadError.TheVariants.{Memory, Syntax}

@@ -8,7 +8,7 @@ use Rattle.sql_token.specs.Token.{AreTokens, AreTokensIn, FirstBad, IsTokenAt}
 use Rattle.sql_token.proofs.Fillers.{fillers_meet}
 use Rattle.sql_token.proofs.Places.{token_one}
 use Rattle.sql_token.proofs.TokenLists.{IsStop, stop_at_bad, stop_at_end, token_free}
-use Rattle.sql_tree.specs.Nesting.{FirstTooDeep, depth}
+use Rattle.sql_tree.specs.Nesting.{FirstTooDeep}
 
 -- two lists of tokens from one place up to stops are one
 same_tokens : (text : List ℕ) (xs ys : List Token) (from to end : ℕ) → IsStop text to → IsStop text end → AreTokensIn text from to xs

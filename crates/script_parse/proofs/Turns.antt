@@ -12,8 +12,8 @@ use Rattle.script_parse.specs.Command.{IsCommand}
 use Rattle.script_parse.specs.declared.error.Cause.TheVariants.{TooLong, BadToken, Depth, TooMany, Syntax}
 use Rattle.script_parse.specs.declared.error.ScriptError.{ScriptError}
 use Rattle.script_parse.specs.declared.error.ScriptError.TheVariants.{Memory, At}
-use Rattle.script_parse.specs.Script.{AreCommands, BeginsAt, IsListFault, IsMemory, IsPieceFault, IsSpelled, IsTaken, IsTooMany, IsUnspelled, OnRefused, behind_first, filled, first_piece, is_end, pieces_of}
-use Rattle.script_parse.proofs.Cuts.{all_behind_first, all_of_first, commands_first, commands_length, commands_not_too_many, commands_not_unspelled, commands_push, commands_spelled, pieces_cut}
+use Rattle.script_parse.specs.Script.{AreCommands, IsListFault, IsMemory, IsPieceFault, IsSpelled, IsTaken, IsTooMany, IsUnspelled, OnRefused, behind_first, filled, first_piece, is_end, pieces_of}
+use Rattle.script_parse.proofs.Cuts.{all_behind_first, commands_first, commands_length, commands_not_too_many, commands_not_unspelled, commands_push, commands_spelled, pieces_cut}
 use Rattle.script_parse.proofs.Tokens.{all_stand}
 
 -- these commands are read, and these tokens are left

@@ -1,5 +1,5 @@
-use Rattle.std.proofs.Common.{◌≡◌, ◌<◌, ◌≤◌, ℕ, List, length, arith, subst, sym, ap, ◌∙◌}
-use Rattle.std.proofs.lemmas.Result.{IfErr-weaker, err_from_is_err_and}
+use Rattle.std.proofs.Common.{length, arith, subst, sym, ap, ◌∙◌}
+use Rattle.std.proofs.lemmas.Result.{err_from_is_err_and}
 use Rattle.std.specs.List.{AllByRecursion}
 use Rattle.common_laws.proofs.Lists.{some_left}
 use Rattle.sql_token.specs.Token.{IsTokenAt}

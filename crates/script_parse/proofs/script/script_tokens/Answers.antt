@@ -1,6 +1,5 @@
-use Rattle.std.proofs.Common.{List, subst, sym, length, arith, ◌≡◌, ◌≤◌, ℕ}
+use Rattle.std.proofs.Common.{subst, sym, length, arith, ◌≤◌}
 use Rattle.common_laws.proofs.Options.{if_some}
-use Rattle.sql_token.specs.declared.token.Token.{Token}
 use Rattle.sql_tree.specs.Nesting.{FirstTooDeep}
 use Rattle.script_parse.proofs.Causes.{deep_first}
 use Rattle.script_parse.proofs.script.script_tokens.Goals as goal
