@@ -1,5 +1,6 @@
 -- Commands with a text: which one is made, and that none is where the text is refused.
-use Rattle.std.proofs.Common.{◌≡◌, ◌++◌, ℕ, List, Err, sym, subst, ◌∙◌, codes}
+use Rattle.std.proofs.Common.{◌≡◌, ◌≤◌, ◌-◌, ◌++◌, ℕ, List, Result, Err, length, get_or, take, drop, sym, subst, ◌∙◌, codes}
+use Rattle.common_laws.proofs.Lists.{four_and_rest}
 use Rattle.sql_token.specs.declared.token.Token.{Token}
 use Rattle.sql_reader.specs.declared.error.ReadError.{ReadError}
 use Rattle.sql_reader.specs.declared.error.ReadError.TheVariants.{Memory, Syntax}
@@ -8,7 +9,7 @@ use Rattle.sql_tree.specs.declared.command.Command.TheVariants.{RenameTable, Ren
 use Rattle.sql_tree.specs.declared.table.Column.{Column as ColumnTree}
 use Rattle.sql_tree.specs.declared.table.CreateTable.{CreateTable}
 use Rattle.ddl_parse.specs.Given.{IsReadAs}
-use Rattle.script_parse.specs.Command.{IsAdded, IsColumnText, IsDefined, IsTableText, Names, bytes_of_all}
+use Rattle.script_parse.specs.Command.{IsAdded, IsColumnText, IsDefined, IsRebuilt, IsTableText, Names, bytes_of_all}
 
 -- an error that is allowed in place of one tree is allowed in place of any
 unread : {A B : Type 0} (a : A) (b : B) (error : ReadError) → IsReadAs {A = A} a (Err error) → IsReadAs {A = B} b (Err error)
@@ -62,3 +63,10 @@ defined_one text table tokens name bytes copy tree copied same named only (Rebui
     let body_is = same ∙ sym is.1 in
     let tree_is = only definition (subst (λ b. IsTableText b definition) (is.1 ∙ sym (copied ∙ same)) is.2) in
     cc
+
+-- what the definition behind four tokens is, all tokens are
+pub rebuilt_only : (text : List ℕ) (tokens : List Token) (other : Token) (answer : Result Command ReadError) → 4 ≤ length tokens
+    → ((command : Command) → IsDefined text (get_or tokens 0 other) (take (length tokens - 4) (drop 4 tokens)) command → IsReadAs {A = Command} command answer)
+    → (command : Command) → IsRebuilt text tokens command → IsReadAs {A = Command} command answer
+rebuilt_only text tokens other answer some only command is =
+    only command (subst (λ ts. IsRebuilt text ts command) (four_and_rest tokens other some) is).3
