@@ -1,8 +1,11 @@
 //! What is answered to a case.
 
-use crate::field::{Escaped, Hex};
+use crate::field::{Escaped, Hex, Quoted};
+use alter_bytes::Bytes;
 use record_codec::Value;
+use script_parse::Cause;
 use sql_token::{Token, TokenKind};
+use sql_tree::Command;
 use std::cmp::Ordering;
 use std::fmt;
 use value_order::Affinity;
@@ -28,6 +31,10 @@ pub enum Answer {
     Depth(usize),
     /// No tree spells all tokens of the text.
     Syntax,
+    /// The commands of a script.
+    Commands(Vec<Command>),
+    /// The text is no script: the place and the cause.
+    Refused(usize, Cause),
     /// The affinity of a type text.
     Affinity(Affinity),
     /// A value.
@@ -53,6 +60,8 @@ impl fmt::Display for Answer {
             Answer::Differs => f.write_str("differs"),
             Answer::Depth(at) => write!(f, "depth {at}"),
             Answer::Syntax => f.write_str("syntax"),
+            Answer::Commands(commands) => write_commands(f, commands.as_slice()),
+            Answer::Refused(at, cause) => write!(f, "{at} {}", name_of_cause(*cause)),
             Answer::Affinity(affinity) => f.write_str(name_of_affinity(*affinity)),
             Answer::Value(value) => write_value(f, value),
             Answer::Order(ordering) => f.write_str(name_of_order(*ordering)),
@@ -83,6 +92,60 @@ fn name_of_kind(kind: TokenKind) -> &'static str {
         TokenKind::Hex => "Hex",
         TokenKind::Float => "Float",
         TokenKind::Op => "Op",
+    }
+}
+
+/// `ok` and the commands, a tab before each.
+fn write_commands<W: fmt::Write>(f: &mut fmt::Formatter<W>, commands: &[Command]) -> fmt::Result {
+    f.write_str("ok")?;
+    for command in commands {
+        f.write_str("\t")?;
+        write_command(f, command)?;
+    }
+    Ok(())
+}
+
+/// What the command does, and its names and texts between double quotes.
+fn write_command<W: fmt::Write>(f: &mut fmt::Formatter<W>, command: &Command) -> fmt::Result {
+    match command {
+        Command::RenameTable { table, new } => { write_names(f, "rename-table", table, new) }
+        Command::RenameColumn {
+            table,
+            column,
+            new,
+            bare,
+        } => {
+            write_names(f, "rename-column", table, column)?;
+            let kind = if *bare { "bare" } else { "quoted" };
+            write!(f, " {} {kind}", Quoted(new.as_slice()))
+        }
+        Command::Add { table, text, .. } => write_names(f, "add", table, text),
+        Command::Drop { table, column } => write_names(f, "drop", table, column),
+        Command::Rebuild { table, text, .. } => write_names(f, "rebuild", table, text),
+    }
+}
+
+fn write_names<W: fmt::Write>(
+    f: &mut fmt::Formatter<W>,
+    verb: &str,
+    first: &Bytes,
+    second: &Bytes,
+) -> fmt::Result {
+    write!(
+        f,
+        "{verb} {} {}",
+        Quoted(first.as_slice()),
+        Quoted(second.as_slice())
+    )
+}
+
+fn name_of_cause(cause: Cause) -> &'static str {
+    match cause {
+        Cause::TooLong => "too-long",
+        Cause::BadToken => "bad-token",
+        Cause::Depth => "depth",
+        Cause::TooMany => "too-many",
+        Cause::Syntax => "syntax",
     }
 }
 

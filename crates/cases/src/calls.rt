@@ -9,6 +9,7 @@ use crate::field::{number, unescaped};
 use crate::values::{affinity, converted, order};
 use ddl_parse::{parse_column, parse_index, parse_table, parse_view};
 use query_parse::{ParseError, parse_expr, parse_select};
+use script_parse::{ScriptError, parse_script};
 use sql_token::{Token, TokenError, TokenKind, name_of, tokens};
 use sql_tree::first_too_deep;
 use std::alloc::{AllocError, Global};
@@ -26,11 +27,24 @@ pub fn answer_to(alloc: Global, line: &[u8]) -> Result<Answer, AllocError> {
         return Ok(Answer::NoSuchCase);
     }
     match (call, second, third) {
+        (b"script", None, None) => script(alloc, first),
         (b"affinity", None, None) => affinity(alloc, first),
         (b"apply", Some(to), Some(before)) => converted(alloc, first, to, before),
         (b"compare", Some(a), Some(b)) => order(alloc, first, a, b),
         (call, place, None) => answer_of_text(alloc, call, first, place),
         _ => Ok(Answer::NoSuchCase),
+    }
+}
+
+/// What `parse_script` gives.
+fn script(alloc: Global, field: &[u8]) -> Result<Answer, AllocError> {
+    let Some(text) = unescaped(alloc, field)? else {
+        return Ok(Answer::NoSuchCase);
+    };
+    match parse_script(alloc, text.as_slice()) {
+        Ok(commands) => Ok(Answer::Commands(commands)),
+        Err(ScriptError::At(at, cause)) => Ok(Answer::Refused(at, cause)),
+        Err(ScriptError::Memory(fault)) => Err(fault),
     }
 }
 

@@ -65,16 +65,37 @@ pub struct Escaped<'a>(pub &'a [u8]);
 impl fmt::Display for Escaped<'_> {
     fn fmt<W: fmt::Write>(&self, f: &mut fmt::Formatter<W>) -> fmt::Result {
         for byte in self.0 {
-            match *byte {
-                b'\\' => f.write_str("\\\\")?,
-                b'\t' => f.write_str("\\t")?,
-                b'\n' => f.write_str("\\n")?,
-                b'\r' => f.write_str("\\r")?,
-                b' '..=b'~' => write!(f, "{}", *byte as char)?,
-                other => write!(f, "\\x{other:02x}")?,
-            }
+            write_escaped(f, *byte)?;
         }
         Ok(())
+    }
+}
+
+fn write_escaped<W: fmt::Write>(f: &mut fmt::Formatter<W>, byte: u8) -> fmt::Result {
+    match byte {
+        b'\\' => f.write_str("\\\\"),
+        b'\t' => f.write_str("\\t"),
+        b'\n' => f.write_str("\\n"),
+        b'\r' => f.write_str("\\r"),
+        b' '..=b'~' => write!(f, "{}", byte as char),
+        other => write!(f, "\\x{other:02x}"),
+    }
+}
+
+/// Bytes between double quotes, inner ones doubled, the others written as in a field.
+#[derive(Clone, Copy)]
+pub struct Quoted<'a>(pub &'a [u8]);
+
+impl fmt::Display for Quoted<'_> {
+    fn fmt<W: fmt::Write>(&self, f: &mut fmt::Formatter<W>) -> fmt::Result {
+        f.write_str("\"")?;
+        for byte in self.0 {
+            match *byte {
+                b'"' => f.write_str("\"\"")?,
+                other => write_escaped(f, other)?,
+            }
+        }
+        f.write_str("\"")
     }
 }
 
