@@ -51,7 +51,9 @@ fn row(
     })
 }
 
-fn usage(kind: UseKind, level: u32) -> Use {
+fn usage(kind: UseKind, level: u32) -> Use
+    ensures { result.row ≡ 3 }
+{
     Use {
         row: 3,
         start: 0,
